@@ -1,0 +1,2 @@
+-- Which spans are pieces, and the board of a string.
+pub mod Pieces

@@ -1,0 +1,1 @@
+// The board of a string: definitions and laws. No function stands here.

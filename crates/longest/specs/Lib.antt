@@ -1,0 +1,3 @@
+-- The longest palindrome of one string and of two.
+pub mod Longest
+pub mod Work

@@ -1,0 +1,5 @@
+-- The worked examples hold.
+pub mod Lengths
+pub mod Deciding
+pub mod Showing
+pub mod Theorem

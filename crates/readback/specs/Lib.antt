@@ -1,0 +1,3 @@
+-- The worked examples that are proved.
+pub mod Samples
+pub mod Shown

@@ -1,0 +1,2 @@
+-- Working notions of the reading-out.
+pub mod Work

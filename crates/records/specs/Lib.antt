@@ -1,0 +1,3 @@
+-- Part records.
+pub mod Records
+pub mod Work

@@ -1,0 +1,2 @@
+-- What is done to rows of numbers.
+pub mod Rows

@@ -1,0 +1,5 @@
+-- Laws that belong to no one function.
+pub mod Index
+pub mod Testing
+pub mod Rows
+pub mod Tabled

@@ -1,0 +1,2 @@
+-- Working notions of the table.
+pub mod Work

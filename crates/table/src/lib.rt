@@ -1,0 +1,101 @@
+// The table of least gap totals, row by row from the last letter, over the maximal lengths of a string's centres.
+use rows::clear;
+use rows::gap_row;
+use rows::lower;
+use rows::store_row;
+ghost use mathlib.Core.Path.{_≡_};
+ghost use Prim.Native.Nat.{_+_, _*_, _≤_, _<_};
+ghost use lib.ListN.{length, getD};
+ghost use Rattle.terms.specs.Tells.{Tells};
+ghost use Rattle.tilings.specs.Tilings.{Table, entries};
+ghost use Rattle.tilings.specs.Work.{PieceBy, boardBy};
+ghost use Rattle.table.specs.Work.{Known, PieceRow, PieceRowUnder};
+
+// An entry of the table.
+pub fn at(t: &[u16], g: usize, i: usize, q: usize) -> u16
+    requires { ⌜ (i ≤ 1000) × (g ≤ 15) × (q ≤ g) × (i * (g + 1) + q < length (now t)) ⌝ }
+    ensures { λ r. ⌜ r ≡ getD (now (t .entry)) (i * (g + 1) + q) 0 ⌝ }
+{
+    t[i * (g + 1) + q]
+}
+
+// Whether the len letters from i are a piece, by the maximal length of their centre.
+pub fn is_piece(lens: &[u16], n: usize, kind: usize, m: usize, i: usize, len: usize) -> bool
+    requires { ⌜ (n ≤ 1000) × (2 * n ≤ length (now lens) + 1) × (1 ≤ len) × (i + len ≤ n) ⌝ }
+    ensures { λ r. ⌜ Tells r (PieceBy (now (lens .entry)) n kind m i len) ⌝ }
+{
+    if len < m {
+        return false;
+    }
+    let most = lens[i + i + len - 1] as usize;
+    if kind == 1 {
+        return len <= most;
+    }
+    if kind == 2 {
+        return len == most;
+    }
+    false
+}
+
+// One length more: where it is a piece, the row is lowered to the row behind it.
+fn piece_step(
+    lens: &[u16],
+    n: usize,
+    kind: usize,
+    m: usize,
+    g: usize,
+    t: &[u16],
+    i: usize,
+    len: usize,
+    row: &mut [u16],
+)
+    requires { ⌜ (n ≤ 1000) × (g ≤ 15) × (2 * n ≤ length (now lens) + 1) × (1 ≤ len) × (i + len ≤ n) ⌝ }
+    requires { ⌜ Known (boardBy (now lens) n kind m) g (i + 1) (now t) ⌝ }
+    requires { ⌜ PieceRowUnder (boardBy (now lens) n kind m) g i len (now row) ⌝ }
+    ensures { λ _. ⌜ PieceRowUnder (boardBy (now (lens .entry)) n kind m) g i (len + 1) (now (row .exit)) ⌝ }
+{
+    if is_piece(lens, n, kind, m, i, len) {
+        lower(row, g, t, (i + len) * (g + 1));
+    }
+}
+
+// The least totals of the tilings from i that begin with a piece, for each number of gaps: each length is tested once.
+fn piece_row(
+    lens: &[u16],
+    n: usize,
+    kind: usize,
+    m: usize,
+    g: usize,
+    t: &[u16],
+    i: usize,
+    row: &mut [u16],
+)
+    requires { ⌜ (n ≤ 1000) × (g ≤ 15) × (2 * n ≤ length (now lens) + 1) × (i < n) × (1 ≤ m) × (m ≤ 1000) × (g < length (now row)) ⌝ }
+    requires { ⌜ Known (boardBy (now lens) n kind m) g (i + 1) (now t) ⌝ }
+    ensures { λ _. ⌜ PieceRow (boardBy (now (lens .entry)) n kind m) g i (now (row .exit)) ⌝ }
+{
+    clear(row, g);
+    let mut len = m;
+    while i + len <= n {
+        piece_step(lens, n, kind, m, g, t, i, len, row);
+        len += 1;
+    }
+}
+
+// The whole table; later entries stay.
+pub fn fill_table(lens: &[u16], n: usize, kind: usize, m: usize, g: usize, t: &mut [u16])
+    requires { ⌜ (n ≤ 1000) × (g ≤ 15) × (2 * n ≤ length (now lens) + 1) × (1 ≤ m) × (m ≤ 1000) × (entries n g ≤ length (now t)) ⌝ }
+    ensures { λ _. ⌜ Table (boardBy (now (lens .entry)) n kind m) g (now (t .entry)) (now (t .exit)) ⌝ }
+{
+    let mut row = [0u16; 16];
+    let mut gaps = [65535u16; 16];
+    store_row(&row, &gaps, g, n, t);
+    let mut i = n;
+    while 0 < i {
+        let j = i - 1;
+        piece_row(lens, n, kind, m, g, t, j, &mut row);
+        gap_row(&mut gaps, g, t, i * (g + 1));
+        store_row(&row, &gaps, g, j, t);
+        i = j;
+    }
+}

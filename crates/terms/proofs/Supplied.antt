@@ -1,0 +1,47 @@
+-- What the tests of a map say, and that both maps supplied pass them. Assumes nothing.
+use mathlib.Core.Path.{_≡_, refl, sym, ap, _∙_}
+use mathlib.Core.Bool.{true}
+use mathlib.Core.List.{List, [], _∷_}
+use Prim.Native.Nat.{ℕ, zero, suc, _+_, _<_, _≤_}
+use native.Mathlib.Omega.{arith}
+use borrow.Author.Tests.{eqb-true}
+use lib.Dec.{eqb}
+use lib.ListN.{length, getD}
+use lib.Seq.{ext-getD}
+use Rattle.terms.specs.Maps.{partner, everyBelow, valuesFrom, ownInverse, plainMap, complementMap, mapFaults}
+use Rattle.terms.specs.Refusals.{firstFault}
+use Rattle.terms.proofs.Below.{below-at}
+use Rattle.terms.proofs.Ranges.{Filled}
+
+-- f(f(x)) = x, at one byte
+pub comes-back : (f : List ℕ) → ownInverse f ≡ true → (x : ℕ) → x < 256 → partner f (partner f x) ≡ x
+unfolding ownInverse
+comes-back f o x h = eqb-true _ _ (below-at (λ b. eqb (partner f (partner f b)) b) 256 x o h)
+
+pub plain-passes : firstFault (mapFaults plainMap) ≡ 0
+unfolding firstFault mapFaults ownInverse everyBelow plainMap
+plain-passes = refl
+
+pub complement-passes : firstFault (mapFaults complementMap) ≡ 0
+unfolding firstFault mapFaults ownInverse everyBelow complementMap
+complement-passes = refl
+
+-- A rule's values, as many as asked, each in its place.
+pub values-length : (rule : ℕ → ℕ) (x k : ℕ) → length (valuesFrom x k rule) ≡ k
+values-length rule x zero = refl
+values-length rule x (suc k) = ap suc (values-length rule (suc x) k)
+
+pub values-at : (rule : ℕ → ℕ) (x k i : ℕ) → i < k → getD (valuesFrom x k rule) i 0 ≡ rule (x + i)
+values-at rule x zero i h = absurd (omega arith)
+values-at rule x (suc k) zero h = ap rule (omega arith)
+values-at rule x (suc k) (suc i) h = values-at rule (suc x) k i (omega arith) ∙ ap rule (let e : suc x + i ≡ x + suc i = omega arith in e)
+
+-- 256 entries that hold their own place are the plain map.
+pub plain-filled : (b a : List ℕ) {k : ℕ} → 256 ≤ k → length b ≡ 256 → Filled (λ i v. v ≡ i) 0 k b a → a ≡ plainMap
+unfolding plainMap
+plain-filled b a l e f =
+    ext-getD 0 a (valuesFrom 0 256 (λ x. x)) (f .long ∙ e ∙ sym (values-length (λ x. x) 0 256))
+    (λ i h.
+    let n : length a ≡ length b = f .long in
+    let z : 0 + i ≡ i = omega arith in
+    f .held i (omega arith) (omega arith) ∙ sym (values-at (λ x. x) 0 256 i (omega arith) ∙ z))

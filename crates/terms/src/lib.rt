@@ -1,0 +1,10 @@
+// What a question is put in: sizes, letter maps, limits, and the refusals that concern these alone.
+pub mod limits;
+pub mod maps;
+pub mod texts;
+
+// The most letters of a string.
+pub const LETTERS: usize = 1000;
+
+// The most changes that stand.
+pub const CHANGES: usize = 64;
