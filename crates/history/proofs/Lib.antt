@@ -1,0 +1,11 @@
+-- Demand 3 proved, and its example run.
+pub mod Lists
+pub mod Padding
+pub mod Edits
+pub mod Bounded
+pub mod Invariant
+pub mod Faults
+pub mod Steps
+pub mod Openings
+pub mod Theorems
+pub mod Example

@@ -1,0 +1,94 @@
+-- A sheet newly opened, and a question's reply beside the one that such a sheet gives. Assumes nothing.
+use mathlib.Core.Path.{_≡_, refl, sym, subst, _∙_}
+use mathlib.Core.Bool.{true, false}
+use mathlib.Core.List.{List, []}
+use mathlib.Core.Logic.{inl, inr}
+use Prim.Native.Nat.{ℕ, _≤_}
+use native.Mathlib.Omega.{arith}
+use lib.ListN.{length-replicate, length-take}
+use Rattle.terms.specs.Refusals.{firstFault}
+use Rattle.terms.specs.Maps.{plainMap}
+use Rattle.terms.specs.Limits.{limitsFaults, wrongKind, outOfRange, tooManyErrors}
+use Rattle.terms.specs.Texts.{Text, text, size, openingFaults}
+use Rattle.terms.specs.declared.limits.Limits.{Limits}
+use Rattle.terms.proofs.Below.{below-zero}
+use Rattle.terms.proofs.Supplied.{plain-passes}
+use Rattle.questions.specs.Tiling.{TilingReply}
+use Rattle.questions.specs.declared.Answer.{Answer}
+use Rattle.questions.proofs.Readers.{one-reply}
+use Rattle.changes.specs.Changes.{acceptsChange}
+use Rattle.sheet.specs.Bounds.{noChange, keptAt, inBounds, textOf}
+use Rattle.sheet.specs.Calls.{numberOf, opened, blankSheet, openCall}
+use Rattle.sheet.specs.Question.{SheetReply}
+use Rattle.sheet.specs.declared.Said.the-variants.{Opened}
+use Rattle.sheet.specs.declared.Sheet.{Sheet}
+use Rattle.sheet.proofs.Within.{within, bounds}
+use Rattle.sheet.proofs.Replying.{answer-yes}
+use Rattle.history.specs.History.{Content, made}
+use Rattle.history.specs.Runs.{contentOf, standingOf, FreshReply}
+use Rattle.history.proofs.Padding.{content-is}
+use Rattle.history.proofs.Invariant.{Invariant}
+use Rattle.history.proofs.Faults.{number-is, opening-passes, opening-passed}
+
+module _ (x : Text) (l : Limits) where
+  abbrev opening : Content
+  opening = record { text = x; limits = l }
+
+  -- an opening is accepted where it has no fault
+  pub opens : firstFault (openingFaults x l) ≡ 0 → openCall x l ≡ record { sheet = opened x l; said = Opened (size x) }
+  opens e = answer-yes _ _ _ (sym e)
+
+  pub number-of-opening : numberOf (openCall x l .said) ≡ firstFault (openingFaults x l)
+  number-of-opening = number-is (openingFaults x l) blankSheet (record { sheet = opened x l; said = Opened (size x) }) refl
+
+  -- and its sheet is the opening with no changes made
+  pub opened-invariant : firstFault (openingFaults x l) ≡ 0 → Invariant opening (opened x l)
+  unfolding opened
+  opened-invariant e =
+      let p = opening-passed x l e in
+      record {
+        bounds =
+            within (opened x l) (p .0) (p .1) (p .2) (omega arith)
+            ∙ below-zero (λ i. acceptsChange (size x) (keptAt (opened x l .kept) i));
+        room = length-replicate 64 noChange;
+        holds = record { letters = refl; n = refl; map = refl; limits = refl };
+        restores = λ i h. absurd (omega arith);
+      }
+
+module _ (t t′ room room′ : List ℕ) (r : Answer) where
+  -- a sheet in its bounds replies as the question without a sheet, of what it holds
+  reply-of : (s : Sheet) (c : Content) → inBounds s ≡ true → contentOf s ≡ c → SheetReply s t t′ room room′ r
+      → TilingReply (c .text) (c .limits) t t′ room room′ r
+  reply-of s c w e (inl a) = let z : true ≡ false = sym w ∙ a .0 in let y : _≡_ {A = ℕ} 0 1 = cc in absurd (omega arith)
+  reply-of s c w e (inr a) = subst (λ (d : Content). TilingReply (d .text) (d .limits) t t′ room room′ r) e (a .1)
+
+-- what a sheet in its bounds holds could be opened
+content-opens : (s : Sheet) → inBounds s ≡ true → firstFault (openingFaults (textOf s) (s .limits)) ≡ 0
+content-opens s w =
+    let b = bounds s w in
+    let n : s .n ≤ 1000 = b .letters in
+    opening-passes (textOf s) (s .limits) (simp length-take (omega arith)) (b .map) (b .limits)
+
+pub fresh-reply : {o : Content} {s : Sheet} → Invariant o s → (t t′ room room′ : List ℕ) (r : Answer) → SheetReply s t t′ room room′ r
+    → FreshReply (made o (standingOf s)) t t′ room room′ r
+unfolding opened
+fresh-reply {o} {s} S t t′ room room′ r a =
+    let c : Content = made o (standingOf s) in
+    let is : contentOf s ≡ c = content-is (S .holds) in
+    let f : firstFault (openingFaults (c .text) (c .limits)) ≡ 0
+    = subst (λ (d : Content). firstFault (openingFaults (d .text) (d .limits)) ≡ 0) is (content-opens s (S .bounds)) in
+    let N : Invariant c (opened (c .text) (c .limits)) = opened-invariant (c .text) (c .limits) f in
+    let right = reply-of t t′ room room′ r s c (S .bounds) is a in
+    record {
+      right = right;
+      opens = number-of-opening (c .text) (c .limits) ∙ f;
+      same =
+          λ t″ room″ r″ b.
+          let fresh = reply-of t t″ room room″ r″ (opened (c .text) (c .limits)) c (N .bounds) (content-is (N .holds)) (rw (opens (c .text) (c .limits) f) at b) in
+          one-reply (c .text) (c .limits) t room t″ t′ room″ room′ r″ r fresh right;
+    }
+
+-- the blank sheet's opening has no fault
+pub blank-passes : firstFault (openingFaults (text [] plainMap) (record { kind = 1; m = 1; g = 0; d = 0 })) ≡ 0
+unfolding firstFault limitsFaults wrongKind outOfRange tooManyErrors
+blank-passes = opening-passes _ _ (omega arith) plain-passes refl

@@ -1,0 +1,141 @@
+-- Demand 3: no run of calls can make a sheet lie. Assumes nothing.
+use mathlib.Core.Path.{_≡_, refl, sym, ap, _∙_}
+use mathlib.Core.Bool.{Bool, true, false, cond}
+use mathlib.Core.List.{List, [], _∷_}
+use Prim.Native.Nat.{ℕ, zero, suc, _+_, _≤_}
+use native.Mathlib.Omega.{arith}
+use lib.Dec.{eqb}
+use lib.ListN.{length}
+use Rattle.terms.specs.Refusals.{firstFault}
+use Rattle.terms.specs.Texts.{Text, text, size, openingFaults}
+use Rattle.terms.specs.declared.limits.Limits.{Limits}
+use Rattle.changes.specs.Changes.{doneOf, backOf}
+use Rattle.changes.specs.declared.Change.{Change}
+use Rattle.changes.specs.declared.Edit.{Edit}
+use Rattle.changes.specs.declared.Edit.the-variants.{Letter as EditLetter, Limits as EditLimits}
+use Rattle.sheet.specs.Bounds.{keptAt}
+use Rattle.sheet.specs.Calls.{numberOf, refusing, answered, applied, takeBackCall, putAgainCall, opened, blankSheet, openCall}
+use Rattle.sheet.specs.declared.Reply.{Reply}
+use Rattle.sheet.specs.declared.Said.{Said}
+use Rattle.sheet.specs.declared.Said.the-variants.{Opened}
+use Rattle.sheet.specs.declared.Sheet.{Sheet}
+use Rattle.sheet.proofs.Within.{bounds}
+use Rattle.sheet.proofs.Replying.{answer-no, applied-accepted, changed-accepted}
+use Rattle.history.specs.History.{Content, History, Request, letter, limits, takeBack, putAgain, made, start, accept, decide, reckon}
+use Rattle.history.specs.Runs.{contentOf, standingOf, takenOf, perform, Call, request, ask, Answered, said, shown, Run, after, Faithful}
+use Rattle.history.specs.Demand3.{Demand3, BlankToo, RefusedStays, BackAndAgain, ChangeAndBack, OpensAnew}
+use Rattle.history.proofs.Lists.{standing-length}
+use Rattle.history.proofs.Padding.{content-is}
+use Rattle.history.proofs.Invariant.{historyOf, Invariant, invariant-same}
+use Rattle.history.proofs.Faults.{number-is, decide-accepts}
+use Rattle.history.proofs.Steps.{counting, back-refused, back-made, again-made, step}
+use Rattle.history.proofs.Openings.{opens, number-of-opening, opened-invariant, fresh-reply, blank-passes}
+
+-- After a run of calls: each answer is the history's, and the history is the one read off the sheet.
+pub record Ends (o : Content) (h : History) (cs : List Call) (rest : List Answered) (s : Sheet) : Type 0 where
+  pub faithful : Faithful h cs rest
+  pub history : after h cs ≡ historyOf o s
+  pub invariant : Invariant o s
+
+run : (o : Content) (s : Sheet) → Invariant o s → (cs : List Call) (rest : List Answered) (s′ : Sheet) → Run s cs rest s′ → Ends o (historyOf o s) cs rest s′
+run o s S [] [] s′ r = rw r (record { faithful = tt; history = refl; invariant = S })
+run o s S [] (a ∷ rest) s′ r = absurd r
+run o s S (c ∷ cs) [] s′ r = absurd r
+run o s S (request q ∷ cs) (said w ∷ rest) s′ r =
+    let A = step S q in
+    let more = run o (perform s q .sheet) (A .0) cs rest s′ (r .1) in
+    record { faithful = rw (A .1) (r .0, more .faithful); history = rw (A .1) (more .history); invariant = more .invariant }
+run o s S (request q ∷ cs) (shown t room a ∷ rest) s′ r = absurd r
+run o s S (ask t room ∷ cs) (said w ∷ rest) s′ r = absurd r
+run o s S (ask t room ∷ cs) (shown t′ room′ a ∷ rest) s′ r =
+    let more = run o s S cs rest s′ (r .1) in
+    record { faithful = (fresh-reply S t t′ room room′ a (r .0), more .faithful); history = more .history; invariant = more .invariant }
+
+-- A run from an accepted opening.
+came : (x : Text) (l : Limits) → numberOf (openCall x l .said) ≡ 0 → (cs : List Call) (rest : List Answered) (s : Sheet)
+    → Run (openCall x l .sheet) cs rest s → Ends (record { text = x; limits = l }) (start x l) cs rest s
+unfolding opened
+came x l z cs rest s r =
+    let e = sym (number-of-opening x l) ∙ z in
+    run (record { text = x; limits = l }) (opened x l) (opened-invariant x l e) cs rest s (rw (opens x l e) at r)
+
+pub demand-3 : Demand3
+demand-3 x l z cs rest s r =
+    let E = came x l z cs rest s r in
+    let S = E .invariant in
+    let w : s .standing + s .taken ≤ 64 = bounds s (S .bounds) .few in
+    let k : length (standingOf s) ≡ s .standing = standing-length (s .kept) (s .standing) in (
+      E .faithful,
+      rw (E .history) (record { content = content-is (S .holds); standing = refl; taken = refl; few = omega arith; bounds = S .bounds }),
+    )
+
+-- A refused call leaves the sheet handed in.
+stays : (fs : List (ℕ × Bool)) (s : Sheet) (r : Reply) → numberOf (r .said) ≡ 0 → (numberOf (answered fs s r .said) ≡ 0 → ⊥) → answered fs s r .sheet ≡ s
+stays fs s r z n = ap (λ (a : Reply). a .sheet) (answer-no fs s r (firstFault fs) refl (λ e. n (number-is fs s r z ∙ e)))
+
+pub refused-stays : RefusedStays
+refused-stays s (letter p b) = stays _ s _ (changed-accepted s (EditLetter p b))
+refused-stays s (limits l) = stays _ s _ (changed-accepted s (EditLimits l))
+refused-stays s takeBack = stays _ s _ (applied-accepted s _ _ _)
+refused-stays s putAgain = stays _ s _ (applied-accepted s _ _ _)
+
+pub blank-too : BlankToo
+unfolding blankSheet
+blank-too x l n =
+    (stays _ blankSheet _ refl n ∙ sym (ap (λ (r : Reply). r .sheet) (opens _ _ blank-passes)), number-of-opening _ _ ∙ blank-passes)
+
+pub opens-anew : OpensAnew
+unfolding answered opened blankSheet
+opens-anew x l = go (eqb k 0)
+  where
+    k : ℕ
+    k = firstFault (openingFaults x l)
+
+    reply : Bool → Reply
+    reply b = cond b (record { sheet = opened x l; said = Opened (size x) }) (refusing blankSheet k)
+
+    go : (b : Bool) → (standingOf (reply b .sheet) ≡ []) × (takenOf (reply b .sheet) ≡ [])
+    go true = (refl, refl)
+    go false = (refl, refl)
+
+-- Take-back and put-again, by the number standing.
+restored : (o : Content) (s : Sheet) (st tk : ℕ) → Invariant o (counting s st tk) → numberOf (takeBackCall (counting s st tk) .said) ≡ 0
+    → (numberOf (putAgainCall (takeBackCall (counting s st tk) .sheet) .said) ≡ 0)
+    × (putAgainCall (takeBackCall (counting s st tk) .sheet) .sheet ≡ counting s st tk)
+unfolding applied
+restored o s zero tk S z =
+    let e : _≡_ {A = ℕ} 8 0 = sym (ap (λ (r : Reply). numberOf (r .said)) (back-refused (counting s 0 tk) (S .bounds) refl)) ∙ z in
+    absurd (omega arith)
+restored o s (suc j) tk S z =
+    let c : Change = keptAt (s .kept) j in
+    let was : Sheet = counting s (suc j) tk in
+    let s1 : Sheet = applied was (backOf c) j (suc tk) .sheet in
+    let b : takeBackCall was ≡ applied was (backOf c) j (suc tk) = back-made s j tk (S .bounds) in
+    let B : Invariant o s1 = rw b at (step S takeBack .0) in
+    let g : putAgainCall s1 ≡ applied s1 (doneOf c) (suc j) tk = again-made s1 j tk (B .bounds) in
+    let G : Invariant o (applied s1 (doneOf c) (suc j) tk .sheet) = rw g at (step B putAgain .0) in
+    rw (b, g) (applied-accepted s1 (doneOf c) (suc j) tk, invariant-same o _ was G S refl refl refl)
+
+pub back-and-again : BackAndAgain
+back-and-again x l z cs rest s r =
+    restored (record { text = x; limits = l }) s (s .standing) (s .taken) (came x l z cs rest s r .invariant)
+
+-- A change and take-back, for whatever faults the change has.
+module _ {o : Content} {s : Sheet} (S : Invariant o s) where
+  undone : (q : Request) (e : Edit) (fs : List (ℕ × Bool)) → reckon (historyOf o s) q ≡ decide fs (historyOf o s) e → numberOf (perform s q .said) ≡ 0
+      → (contentOf (takeBackCall (perform s q .sheet) .sheet) ≡ contentOf s) × (standingOf (takeBackCall (perform s q .sheet) .sheet) ≡ standingOf s)
+  undone q e fs d z =
+      let h : History = historyOf o s in
+      let A = step S q in
+      let B = step (A .0) takeBack in
+      let n : numberOf (decide fs h e .1) ≡ 0 = ap (λ (y : History × Said). numberOf (y .1)) (sym d ∙ A .1) ∙ z in
+      let a : historyOf o (perform s q .sheet) ≡ accept h e .0 = ap (λ (y : History × Said). y .0) (sym (A .1) ∙ d ∙ decide-accepts fs h e n) in
+      let b : standingOf (takeBackCall (perform s q .sheet) .sheet) ≡ standingOf s
+      = ap (λ (y : History × Said). y .0 .standing) (sym (B .1)) ∙ ap (λ (y : History). reckon y takeBack .0 .standing) a in
+      (content-is (B .0 .holds) ∙ ap (made o) b ∙ sym (content-is (S .holds)), b)
+
+pub change-and-back : ChangeAndBack
+change-and-back x l z cs rest s r (letter p b) c = undone (came x l z cs rest s r .invariant) (letter p b) (EditLetter p b) _ refl
+change-and-back x l z cs rest s r (limits m) c = undone (came x l z cs rest s r .invariant) (limits m) (EditLimits m) _ refl
+change-and-back x l z cs rest s r takeBack c = absurd c
+change-and-back x l z cs rest s r putAgain c = absurd c

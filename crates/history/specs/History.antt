@@ -1,0 +1,97 @@
+-- The history of a sheet (01, "The sheet"): reckoned from the calls made since the opening, by the rules there, and not read off the sheet.
+use mathlib.Core.Bool.{Bool, cond}
+use mathlib.Core.List.{List, [], _∷_, _++_}
+use Prim.Native.Nat.{ℕ}
+use lib.Dec.{eqb, leb}
+use lib.ListN.{getD, set, length}
+use Rattle.terms.specs.Sizes.{mostChanges}
+use Rattle.terms.specs.Refusals.{firstFault}
+use Rattle.terms.specs.Limits.{limitsFaults}
+use Rattle.terms.specs.Texts.{Text, text, size}
+use Rattle.terms.specs.declared.limits.Limits.{Limits}
+use Rattle.changes.specs.declared.Edit.{Edit}
+use Rattle.changes.specs.declared.Edit.the-variants.{Letter as EditLetter, Limits as EditLimits}
+use Rattle.sheet.specs.declared.Said.{Said}
+use Rattle.sheet.specs.declared.Said.the-variants.{Letter as SaidLetter, Limits as SaidLimits, No}
+
+-- What a question is asked of: letters with their map, and limits.
+pub record Content : Type 0 where
+  pub text : Text
+  pub limits : Limits
+
+-- An edit made.
+abbrev pub make : Edit → Content → Content
+make (EditLetter p b) c = record { text = text (set (c .text .letters) p b) (c .text .map); limits = c .limits }
+make (EditLimits l) c = record { text = c .text; limits = l }
+
+-- The edit that takes e back, where e was made of c: it restores what was there.
+abbrev pub back : Content → Edit → Edit
+back c (EditLetter p b) = EditLetter p (getD (c .text .letters) p 0)
+back c (EditLimits l) = EditLimits (c .limits)
+
+-- The opening with changes made in their order; the list has the newest first.
+abbrev pub made : Content → List Edit → Content
+made o [] = o
+made o (e ∷ es) = make e (made o es)
+
+-- What is said back of an edit that led from `was` to `is`: place, letter replaced, letter now there; or the limits now in force; and k standing.
+abbrev pub sayBack : Edit → Content → Content → ℕ → Said
+sayBack (EditLetter p b) was is k = SaidLetter p (getD (was .text .letters) p 0) (getD (is .text .letters) p 0) k
+sayBack (EditLimits l) was is k = SaidLimits (is .limits) k
+
+-- The opening, the standing changes (the newest first) and those taken back (the next to put again first).
+pub record History : Type 0 where
+  pub opening : Content
+  pub standing : List Edit
+  pub taken : List Edit
+
+-- A new opening starts a new history.
+abbrev pub start : Text → Limits → History
+start x l = record { opening = record { text = x; limits = l }; standing = []; taken = [] }
+
+-- The opening with just the standing changes made in their order.
+abbrev pub current : History → Content
+current h = made (h .opening) (h .standing)
+
+-- A call that asks for a change, or moves one.
+pub data Request : Type 0 where
+  letter : ℕ → ℕ → Request
+  limits : Limits → Request
+  takeBack putAgain : Request
+
+-- From a history to the next by the edit e: what is said compares the two.
+abbrev pub moved : History → Edit → History → History × Said
+moved h e h′ = (h′, sayBack e (current h) (current h′) (length (h′ .standing)))
+
+-- Refused: the history stays.
+abbrev pub refuse : History → ℕ → History × Said
+refuse h k = (h, No k)
+
+-- An accepted change joins the standing list as its newest, and empties the taken-back list.
+abbrev pub accept : History → Edit → History × Said
+accept h e = moved h e (record { opening = h .opening; standing = e ∷ h .standing; taken = [] })
+
+-- A change, with its faults in testing order.
+abbrev pub decide : List (ℕ × Bool) → History → Edit → History × Said
+decide faults h e = cond (eqb (firstFault faults) 0) (accept h e) (refuse h (firstFault faults))
+
+-- 64 changes stand.
+abbrev pub full : History → Bool
+full h = leb mostChanges (length (h .standing))
+
+-- Take-back moves the newest standing change over and restores what it replaced; 8 where there is none.
+abbrev pub backFrom : History → List Edit → History × Said
+backFrom h [] = refuse h 8
+backFrom h (e ∷ es) = moved h (back (made (h .opening) es) e) (record { opening = h .opening; standing = es; taken = e ∷ h .taken })
+
+-- Put-again moves back the one taken back last, and makes it; 9 where there is none.
+abbrev pub againFrom : History → List Edit → History × Said
+againFrom h [] = refuse h 9
+againFrom h (e ∷ es) = moved h e (record { opening = h .opening; standing = e ∷ h .standing; taken = es })
+
+-- What a request makes of the history, and what is said back.
+abbrev pub reckon : History → Request → History × Said
+reckon h (letter p b) = decide ((6, leb (size (current h .text)) p) ∷ (7, full h) ∷ []) h (EditLetter p b)
+reckon h (limits l) = decide (limitsFaults l ++ (7, full h) ∷ []) h (EditLimits l)
+reckon h takeBack = backFrom h (h .standing)
+reckon h putAgain = againFrom h (h .taken)

@@ -1,0 +1,2 @@
+-- The places of a sheet.
+pub mod Places

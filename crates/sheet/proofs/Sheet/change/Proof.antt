@@ -1,0 +1,28 @@
+-- `Sheet::change` meets its contract. Assumes nothing.
+use borrow.Author.Needs.{needs}
+use Rattle.sheet.proofs.Replying.{changed-of}
+use Rattle.sheet.proofs.Sheet.change.Statement.{statement}
+use Rattle.sheet.proofs.Sheet.change.Tie as tie
+
+replaced-requires : tie.Need-replaced-requires
+replaced-requires c κs = search needs
+
+add-apply : tie.Need-add-apply
+add-apply c = search needs
+
+apply-requires : tie.Need-apply-requires
+apply-requires c κs = search needs
+
+mul-k : tie.Need-mul-k
+mul-k c = search needs
+
+element-set-from-k : tie.Need-element-set-from-k
+element-set-from-k c = search needs
+
+returns : tie.Need-returns
+returns c = changed-of (c .before .before .before .args .self) (c .before .before .before .args .e) (c .before .apply .result) (c .before .before .replaced .result) (c .before .apply .ensures) (c .before .before .replaced .ensures)
+
+pub change-spec : {M : Type 1} → statement M
+change-spec =
+    tie.close
+    (tie.spec replaced-requires add-apply apply-requires mul-k element-set-from-k returns)

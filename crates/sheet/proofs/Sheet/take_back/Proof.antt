@@ -1,0 +1,70 @@
+-- `Sheet::take_back` meets its contract: 24, 8, or the newest change taken back. Assumes nothing.
+use Prim.Native.Nat.{_+_, _-_}
+use borrow.Author.Needs.{needs}
+use borrow.Author.Tests.{not-true, not-false}
+use mathlib.Core.Path.{_≡_, sym, ap, _∙_}
+use native.Mathlib.Omega.{arith}
+use Rattle.changes.specs.Changes.{accepts}
+use Rattle.changes.specs.declared.Edit.{Edit}
+use Rattle.sheet.proofs.Replying.{call-refused, call-accepted, applied-accepted, popped-is, newest-back, back-24, back-8, back-0, back-is}
+use Rattle.sheet.proofs.Within.{bounds}
+use Rattle.sheet.specs.Calls.{applied, newestOf}
+use Rattle.sheet.proofs.Sheet.take_back.Statement.{statement}
+use Rattle.sheet.proofs.Sheet.take_back.Tie as tie
+
+in-bounds-requires : tie.Need-in-bounds-requires
+in-bounds-requires c κs = search needs
+
+refused-requires : tie.Need-refused-requires
+refused-requires c κs = search needs
+
+returns : tie.Need-returns
+returns c = call-refused _ _ _ 24 (back-24 _ (sym (c .before .before .in-bounds .ensures) ∙ not-true _ (c .before .if1 .taken))) (λ e. omega arith) _ (c .refused .ensures)
+
+newest-requires : tie.Need-newest-requires
+newest-requires c κs = omega (arith, bounds _ (sym (c .before .in-bounds .ensures) ∙ not-false _ (c .if1 .left)) .few)
+
+enum-known-c : tie.Need-enum-known-c
+enum-known-c c = search needs
+
+enum-told : tie.Need-enum-told
+enum-told c = search needs
+
+refused-requires-2 : tie.Need-refused-requires-2
+refused-requires-2 c κs = search needs
+
+returns-2 : tie.Need-returns-2
+returns-2 c = call-refused _ _ _ 8 (back-8 _ (sym (c .before .before .before .before .before .in-bounds .ensures) ∙ not-false _ (c .before .before .before .before .if1 .left)) (sym (c .before .before .before .newest .ensures) ∙ c .before .enum-told .given .1)) (λ e. omega arith) _ (c .refused2 .ensures)
+
+back-requires : tie.Need-back-requires
+back-requires c κs = search needs
+
+sub-apply : tie.Need-sub-apply
+sub-apply c = let s = c .before .before .before .before .before .before .before .before .args .self in let z = popped-is (s .standing) (newestOf s) _ (sym (c .before .before .before .before .before .newest .ensures) ∙ c .before .before .before .c .given .1) .1 in omega arith
+
+add-apply : tie.Need-add-apply
+add-apply c = omega (arith, bounds _ (sym (c .before .before .before .before .before .before .before .before .in-bounds .ensures) ∙ not-false _ (c .before .before .before .before .before .before .before .if1 .left)) .few)
+
+apply-requires : tie.Need-apply-requires
+apply-requires c κs = let w = sym (c .before .before .before .before .before .before .before .before .in-bounds .ensures) ∙ not-false _ (c .before .before .before .before .before .before .before .if1 .left) in (bounds _ w .letters, ap (accepts _) (c .before .before .back .ensures) ∙ newest-back _ _ w (sym (c .before .before .before .before .before .before .newest .ensures) ∙ c .before .before .before .before .c .given .1))
+
+returns-3 : tie.Need-returns-3
+returns-3 c = let s = c .before .before .before .before .before .before .before .before .before .before .args .self in let w = sym (c .before .before .before .before .before .before .before .before .before .in-bounds .ensures) ∙ not-false _ (c .before .before .before .before .before .before .before .before .if1 .left) in let p = sym (c .before .before .before .before .before .before .before .newest .ensures) ∙ c .before .before .before .before .before .c .given .1 in call-accepted _ _ _ (back-0 s w _ p) _ (c .apply .ensures ∙ ap (λ (e : Edit). applied s e (s .standing - 1) (s .taken + 1)) (c .before .before .before .back .ensures ∙ back-is s _ p)) (applied-accepted _ _ _ _)
+
+pub take-back-spec : {M : Type 1} → statement M
+take-back-spec =
+    tie.close
+    (tie.spec
+    in-bounds-requires
+    refused-requires
+    returns
+    newest-requires
+    enum-known-c
+    enum-told
+    refused-requires-2
+    returns-2
+    back-requires
+    sub-apply
+    add-apply
+    apply-requires
+    returns-3)

@@ -1,0 +1,174 @@
+-- What each call on a sheet replies: the sheet afterwards and what is said (01, "The sheet").
+use mathlib.Core.Path.{_≡_}
+use mathlib.Core.Bool.{Bool, not, cond}
+use mathlib.Core.List.{List, [], _∷_, _++_}
+use Prim.Native.Nat.{ℕ, _+_, _-_}
+use lib.Dec.{eqb, leb}
+use lib.ListN.{getD, set, length, replicate}
+use Rattle.terms.specs.Sizes.{mostChanges}
+use Rattle.terms.specs.Refusals.{firstFault}
+use Rattle.terms.specs.Maps.{plainMap}
+use Rattle.terms.specs.Limits.{limitsFaults}
+use Rattle.terms.specs.Texts.{Text, text, openingFaults}
+use Rattle.terms.specs.declared.limits.Limits.{Limits}
+use Rattle.changes.specs.Changes.{doneOf, backOf}
+use Rattle.changes.specs.declared.Change.{Change}
+use Rattle.changes.specs.declared.Change.the-variants.{Letter as ChangedLetter, Limits as ChangedLimits}
+use Rattle.changes.specs.declared.Edit.{Edit}
+use Rattle.changes.specs.declared.Edit.the-variants.{Letter as EditLetter, Limits as EditLimits}
+use Rattle.places.specs.Places.{padded}
+use Rattle.sheet.specs.Bounds.{noChange, keptAt, inBounds}
+use Rattle.sheet.specs.declared.Popped.{Popped}
+use Rattle.sheet.specs.declared.Popped.the-variants.{Change as PoppedChange, Nothing}
+use Rattle.sheet.specs.declared.Said.{Said}
+use Rattle.sheet.specs.declared.Said.the-variants.{Letter as SaidLetter, Limits as SaidLimits, Opened, No}
+use Rattle.sheet.specs.declared.Sheet.{Sheet}
+use Rattle.sheet.specs.declared.Reply.{Reply}
+
+-- 01's number of what is said, 0 where the call was accepted; and its values in 01's order, zeros on a refusal.
+abbrev pub numberOf : Said → ℕ
+numberOf (SaidLetter p old new k) = 0
+numberOf (SaidLimits l k) = 0
+numberOf (Opened n) = 0
+numberOf (No k) = k
+
+abbrev pub valuesOf : Said → List ℕ
+valuesOf (SaidLetter p old new k) = p ∷ old ∷ new ∷ k ∷ []
+valuesOf (SaidLimits l k) = l .kind ∷ l .m ∷ l .g ∷ l .d ∷ k ∷ []
+valuesOf (Opened n) = n ∷ 0 ∷ []
+valuesOf (No k) = 0 ∷ 0 ∷ 0 ∷ 0 ∷ []
+
+-- A refusal says its number, and the sheet stays.
+abbrev pub refusing : Sheet → ℕ → Reply
+refusing s k = record { sheet = s; said = No k }
+
+-- The reply of a call with these faults, in testing order: the first that holds is refused, else the call is accepted.
+unfoldable pub answered : List (ℕ × Bool) → Sheet → Reply → Reply
+answered faults s accepted = cond (eqb (firstFault faults) 0) accepted (refusing s (firstFault faults))
+
+-- The promise of a call: its whole reply, and the number said is the first fault's.
+pub record CallReply (faults : List (ℕ × Bool)) (reply r : Reply) : Type 0 where
+  pub whole : r ≡ reply
+  pub number : numberOf (r .said) ≡ firstFault faults
+
+-- What an edit makes of letters and limits, and what is said of it: place, letter replaced, letter now there; or the limits in force.
+abbrev pub lettersBy : Edit → List ℕ → List ℕ
+lettersBy (EditLetter p b) x = set x p b
+lettersBy (EditLimits l) x = x
+
+abbrev pub limitsBy : Edit → Limits → Limits
+limitsBy (EditLetter p b) l = l
+limitsBy (EditLimits l′) l = l′
+
+abbrev pub saidBy : Edit → Sheet → ℕ → Said
+saidBy (EditLetter p b) s k = SaidLetter p (getD (s .letters) p 0) b k
+saidBy (EditLimits l) s k = SaidLimits l k
+
+-- The sheet with the letter b written at place p.
+abbrev pub withLetter : Sheet → ℕ → ℕ → Sheet
+withLetter s p b =
+    record { letters = set (s .letters) p b; n = s .n; map = s .map; limits = s .limits; kept = s .kept; standing = s .standing; taken = s .taken }
+
+-- An edit made, and said back with the number standing; the two counts become st and tk.
+unfoldable pub applied : Sheet → Edit → ℕ → ℕ → Reply
+applied s e st tk =
+    record {
+      sheet =
+          record {
+            letters = lettersBy e (s .letters);
+            n = s .n;
+            map = s .map;
+            limits = limitsBy e (s .limits);
+            kept = s .kept;
+            standing = st;
+            taken = tk;
+          };
+      said = saidBy e s st;
+    }
+
+-- The change that an edit makes here, with what it replaces.
+unfoldable pub replacing : Sheet → Edit → Change
+replacing s (EditLetter p b) = ChangedLetter p (getD (s .letters) p 0) b
+replacing s (EditLimits l) = ChangedLimits (s .limits) l
+
+-- The sheet with the change c kept at place `at`.
+abbrev pub keeping : Sheet → ℕ → Change → Sheet
+keeping s at c =
+    record {
+      letters = s .letters;
+      n = s .n;
+      map = s .map;
+      limits = s .limits;
+      kept = set (s .kept) at (record { what = c });
+      standing = s .standing;
+      taken = s .taken;
+    }
+
+-- An accepted change joins the standing list as its newest and empties the taken-back list.
+unfoldable pub changed : Sheet → Edit → Reply
+changed s e =
+    record {
+      sheet = keeping (applied s e (s .standing + 1) 0 .sheet) (s .standing) (replacing s e);
+      said = applied s e (s .standing + 1) 0 .said;
+    }
+
+-- Every call on a sheet: 24 first. Letter: 6, 7.
+unfoldable pub letterFaults : Sheet → ℕ → List (ℕ × Bool)
+letterFaults s p = (24, not (inBounds s)) ∷ (6, leb (s .n) p) ∷ (7, leb mostChanges (s .standing)) ∷ []
+
+abbrev pub letterCall : Sheet → ℕ → ℕ → Reply
+letterCall s p b = answered (letterFaults s p) s (changed s (EditLetter p b))
+
+-- Limits: 4, 5, 7.
+unfoldable pub limitsCallFaults : Sheet → Limits → List (ℕ × Bool)
+limitsCallFaults s l = (24, not (inBounds s)) ∷ limitsFaults l ++ (7, leb mostChanges (s .standing)) ∷ []
+
+abbrev pub limitsCall : Sheet → Limits → Reply
+limitsCall s l = answered (limitsCallFaults s l) s (changed s (EditLimits l))
+
+-- The newest standing change, and the one taken back last.
+abbrev pub newestOf : Sheet → Change
+newestOf s = keptAt (s .kept) (s .standing - 1)
+
+abbrev pub lastTaken : Sheet → Change
+lastTaken s = keptAt (s .kept) (s .standing)
+
+-- Popping one of so many changes answers the change, or Nothing where there is none.
+abbrev pub popping : ℕ → Change → Popped
+popping many c = cond (eqb many 0) Nothing (PoppedChange c)
+
+-- 01's number of what is popped, k where it is Nothing.
+abbrev pub poppedNumber : ℕ → Popped → ℕ
+poppedNumber k Nothing = k
+poppedNumber k (PoppedChange c) = 0
+
+-- Take-back: 8. It moves the newest standing change over and restores what that replaced.
+unfoldable pub takeBackFaults : Sheet → List (ℕ × Bool)
+takeBackFaults s = (24, not (inBounds s)) ∷ (8, eqb (poppedNumber 8 (popping (s .standing) (newestOf s))) 8) ∷ []
+
+abbrev pub takeBackCall : Sheet → Reply
+takeBackCall s = answered (takeBackFaults s) s (applied s (backOf (newestOf s)) (s .standing - 1) (s .taken + 1))
+
+-- Put-again: 9. It moves back the change taken back last, and makes it again.
+unfoldable pub putAgainFaults : Sheet → List (ℕ × Bool)
+putAgainFaults s = (24, not (inBounds s)) ∷ (9, eqb (poppedNumber 9 (popping (s .taken) (lastTaken s))) 9) ∷ []
+
+abbrev pub putAgainCall : Sheet → Reply
+putAgainCall s = answered (putAgainFaults s) s (applied s (doneOf (lastTaken s)) (s .standing + 1) (s .taken - 1))
+
+-- A sheet with no changes, over letters in their places.
+abbrev pub unchangedOf : List ℕ → ℕ → List ℕ → Limits → Sheet
+unchangedOf x n f l =
+    record { letters = x; n = n; map = f; limits = l; kept = replicate mostChanges noChange; standing = 0; taken = 0 }
+
+-- A sheet newly opened with a text and limits.
+unfoldable pub opened : Text → Limits → Sheet
+opened x l = unchangedOf (padded (x .letters)) (length (x .letters)) (x .map) l
+
+-- The blank sheet: no letters, plain map, kind 1, m 1, g 0, d 0, no changes.
+unfoldable pub blankSheet : Sheet
+blankSheet = opened (text [] plainMap) (record { kind = 1; m = 1; g = 0; d = 0 })
+
+-- Opening: 1, 2, 3, 4, 5. A refused opening gives the blank sheet.
+abbrev pub openCall : Text → Limits → Reply
+openCall x l = answered (openingFaults x l) blankSheet (record { sheet = opened x l; said = Opened (length (x .letters)) })
