@@ -9,3 +9,4 @@ pub mod Steps
 pub mod Openings
 pub mod Theorems
 pub mod Example
+pub mod Asked

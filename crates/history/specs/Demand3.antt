@@ -2,13 +2,16 @@
 -- answers as a sheet freshly opened with them would; every accepted change, take-back and put-again says back place, old, new and the number standing.
 use mathlib.Core.Path.{_≡_}
 use mathlib.Core.Bool.{true}
-use mathlib.Core.List.{List, []}
-use Prim.Native.Nat.{_≤_}
+use mathlib.Core.List.{List, [], _∷_}
+use Prim.Native.Nat.{ℕ, _≤_}
 use lib.ListN.{length}
 use Rattle.terms.specs.Sizes.{mostChanges}
+use Rattle.terms.specs.Refusals.{OneOf}
 use Rattle.terms.specs.Maps.{plainMap}
 use Rattle.terms.specs.Texts.{Text, text}
 use Rattle.terms.specs.declared.limits.Limits.{Limits}
+use Rattle.questions.specs.Tiling.{TilingReply}
+use Rattle.questions.specs.declared.Answer.{Answer}
 use Rattle.sheet.specs.Bounds.{inBounds}
 use Rattle.sheet.specs.Calls.{numberOf, takeBackCall, putAgainCall, openCall}
 use Rattle.sheet.specs.declared.Sheet.{Sheet}
@@ -79,3 +82,12 @@ ChangeAndBack =
 -- A new opening starts a new history: no change stands and none is taken back.
 abbrev pub OpensAnew : Type 0
 OpensAnew = (x : Text) (l : Limits) → (standingOf (openCall x l .sheet) ≡ []) × (takenOf (openCall x l .sheet) ≡ [])
+
+-- The opening refuses exactly as the first five refusals of the question without a sheet: where it is refused the question is, with the same
+-- number; where it is accepted the question's number is none of the five.
+abbrev pub OpensAsAsked : Type 0
+OpensAsAsked =
+    (x : Text) (l : Limits) (t t′ room room′ : List ℕ) (r : Answer)
+    → TilingReply x l t t′ room room′ r
+    → ((numberOf (openCall x l .said) ≡ 0 → ⊥) → r .number ≡ numberOf (openCall x l .said))
+    × (numberOf (openCall x l .said) ≡ 0 → OneOf (r .number) (0 ∷ 11 ∷ 10 ∷ 12 ∷ []))
