@@ -121,10 +121,8 @@ impl Sheet {
     fn refused(self, number: usize) -> Reply
         ensures { λ r. ⌜ r ≡ refusing self number ⌝ }
     {
-        Reply {
-            sheet: self,
-            said: Said::No { number },
-        }
+        let said = Said::No { number };
+        Reply { sheet: self, said }
     }
 
     // Pops the newest standing change, if any stands.
