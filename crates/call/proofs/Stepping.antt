@@ -1,0 +1,140 @@
+-- A step, and a whole piece. Assumes nothing.
+use mathlib.Core.Path.{_≡_, refl, sym, ap, _∙_, subst}
+use mathlib.Core.Bool.{Bool, true, false}
+use mathlib.Core.List.{List, [], _∷_, _++_}
+use Prim.Native.Nat.{ℕ, _+_, _-_, _≤_, _<_, min}
+use native.Mathlib.Omega.{arith}
+use native.Mathlib.Decide.{decLe}
+use borrow.Author.Tests.{ltb-true, ltb-false}
+use lib.Dec.{T}
+use lib.ListN.{length, take, drop, length-drop, length-take, drop-of-length-le}
+use lib.Seq.{take-all, take-nil, length-take-le}
+use Rattle.lines.specs.Lines.{Reads}
+use Rattle.lines.specs.declared.Line.the-variants.{Unknown}
+use Rattle.lines.specs.declared.Line.{Line}
+use Rattle.lines.proofs.Reading.{too-long, one-reading}
+use Rattle.feed.specs.Lines.{wholeLines, lastLine}
+use Rattle.feed.specs.Feeding.{upToEnd, ends, Kept, Feeds, TakesOn}
+use Rattle.feed.specs.declared.Fed.{Fed}
+use Rattle.feed.proofs.Ends.{within}
+use Rattle.feed.proofs.Pieces.{feeding}
+use Rattle.desk.specs.Desk.{Does, DeskReply}
+use Rattle.desk.specs.declared.Desk.{Desk}
+use Rattle.desk.specs.declared.Turn.{Turn}
+use Rattle.call.specs.declared.Progress.{Progress}
+use Rattle.call.specs.Steps.{lineNow, Ended, Unended, Stepped, Stepping, Reading, Finished, Finishing}
+
+pub kept-none : (room : List ℕ) → Kept room 0 []
+kept-none room = record { many = omega arith; bytes = sym (take-nil (length room)) }
+
+-- the bytes kept are of the line that they are
+pub kept-self : (room : List ℕ) (at : ℕ) → at ≤ length room → Kept room at (take at room)
+kept-self room at h =
+    record {
+      many = omega (arith, length-take-le at room h);
+      bytes = sym (take-all (length room) (take at room) (omega (arith, length-take-le at room h)));
+    }
+
+-- a line is answered as what is kept of it: where it is too long, so is that
+pub whole-line : (d : Desk) (room : List ℕ) (at : ℕ) (line : List ℕ) → length room ≡ 1041 → Kept room at line → {table table′ work work′ out out′ : List ℕ} {r : Turn}
+    → DeskReply d (take at room) table table′ work work′ out out′ r → DeskReply d line table table′ work work′ out out′ r
+whole-line d room at line long k {table} {table′} {work} {work′} {out} {out′} {r} p =
+    elim (decLe (length line) 1040) [
+      | yes h ↦ subst (λ (z : List ℕ). DeskReply d z table table′ work work′ out out′ r) (k .bytes ∙ take-all (length room) line (omega arith)) p
+      | no h ↦
+          let l : length (take at room) ≡ at = length-take-le at room (omega (arith, k .many)) in
+          let u : p .line ≡ Unknown = one-reading (take at room) (p .line) Unknown (p .reads) (too-long (take at room) (omega (arith, k .many))) in
+          record {
+            line = Unknown;
+            reads = too-long line (omega arith);
+            text = p .text;
+            does = subst (λ (z : Line). Does d (take at room) z table table′ work work′ (r .desk, p .text)) u (p .does);
+            puts = p .puts;
+          }
+    ]
+
+module _ (bytes bytes′ : List ℕ) (at : ℕ) (piece : List ℕ) (from : ℕ) (fed : Fed) (f : TakesOn bytes at piece from bytes′ fed) where
+  -- where the step leaves off
+  pub fed-bounds : at ≤ length bytes → from < length piece → (from < fed .from) × (fed .from ≤ length piece) × (fed .at ≤ length bytes′)
+  fed-bounds h l = go (ends (drop from piece)) refl
+    where
+      p : Feeds (take at bytes) piece from bytes′ fed
+      p = f (take at bytes) (kept-self bytes at h)
+
+      go : (t : Bool) → ends (drop from piece) ≡ t → (from < fed .from) × (fed .from ≤ length piece) × (fed .at ≤ length bytes′)
+      go true e =
+          let n = rw e at (p .next) in
+          omega (arith, n, ltb-true (length (upToEnd (drop from piece))) (length (drop from piece)) e, length-drop from piece, p .kept .many)
+      go false e =
+          let n = rw e at (p .next) in
+          omega (arith, n, ltb-false (length (upToEnd (drop from piece))) (length (drop from piece)) e, within (drop from piece), length-drop from piece, p .kept .many)
+
+  module _ (d : Desk) {table room out : List ℕ} where
+    pub step-ended : length bytes′ ≡ 1041 → fed .whole ≡ true → {table′ room′ out′ : List ℕ} {turn : Turn} → DeskReply d (take (fed .at) bytes′) table table′ room room′ out out′ turn
+        → Stepping d bytes bytes′ at piece from table table′ room room′ out out′ (record { desk = turn .desk; at = 0; from = fed .from; written = turn .written })
+    step-ended long w q line k =
+        let p = f line k in
+        record {
+          ended = λ e. record { first = feeding .ended line piece from bytes′ fed p w .0; last = feeding .ended line piece from bytes′ fed p w .1; reply = whole-line d bytes′ (fed .at) _ long (p .kept) q; kept = kept-none bytes′ };
+          unended = λ e. absurd (subst T (sym w ∙ p .whole ∙ e) tt);
+        }
+
+    pub step-unended : fed .whole ≡ false → from ≤ length piece → Stepping d bytes bytes′ at piece from table table room room out out (record { desk = d; at = fed .at; from = fed .from; written = 0 })
+    step-unended w h line k =
+        let p = f line k in
+        let e : ends (drop from piece) ≡ false = sym (p .whole) ∙ w in
+        let n = rw e at (p .next) in
+        record {
+          ended = λ t. absurd (subst T (sym t ∙ e) tt);
+          unended = λ t.
+              record {
+                none = feeding .unended line piece from bytes′ fed p w .0;
+                last = feeding .unended line piece from bytes′ fed p w .1;
+                done = drop-of-length-le piece {i = fed .from} (omega (arith, n, ltb-false (length (upToEnd (drop from piece))) (length (drop from piece)) e, length-drop from piece));
+                desk = refl;
+                silent = refl;
+                stays = (refl, refl, refl);
+                kept = p .kept;
+              };
+        }
+
+-- So far in a piece: whatever line the bytes kept at its start are of, those kept now are of one with the same last line.
+abbrev pub Onward : List ℕ → ℕ → List ℕ → List ℕ → ℕ → ℕ → Type 0
+Onward bytes₀ at₀ piece bytes at from =
+    (line : List ℕ) → Kept bytes₀ at₀ line → (now : List ℕ) × Kept bytes at now × (lastLine now (drop from piece) ≡ lastLine line piece)
+
+pub onward-start : (bytes : List ℕ) (at : ℕ) (piece : List ℕ) → Onward bytes at piece bytes at 0
+onward-start bytes at piece line k = (line, k, refl)
+
+pub onward-next : (d : Desk) (bytes₀ : List ℕ) (at₀ : ℕ) (piece bytes : List ℕ) (at from : ℕ) (bytes′ table table′ room room′ out out′ : List ℕ) (r : Progress)
+    → Onward bytes₀ at₀ piece bytes at from → Stepping d bytes bytes′ at piece from table table′ room room′ out out′ r → Onward bytes₀ at₀ piece bytes′ (r .at) (r .from)
+onward-next d bytes₀ at₀ piece bytes at from bytes′ table table′ room room′ out out′ r o s line k = go (ends (drop from piece)) refl
+  where
+    was : (now : List ℕ) × Kept bytes at now × (lastLine now (drop from piece) ≡ lastLine line piece)
+    was = o line k
+
+    go : (t : Bool) → ends (drop from piece) ≡ t → (now : List ℕ) × Kept bytes′ (r .at) now × (lastLine now (drop (r .from) piece) ≡ lastLine line piece)
+    go true e = let q = s (was .0) (was .1) .ended e in ([], q .kept, sym (q .last) ∙ was .2)
+    go false e =
+        let q = s (was .0) (was .1) .unended e in
+        (lineNow (was .0) piece from, q .kept, ap (lastLine (lineNow (was .0) piece from)) (q .done) ∙ sym (q .last) ∙ was .2)
+
+pub onward-end : (bytes₀ : List ℕ) (at₀ : ℕ) (piece bytes : List ℕ) (at from : ℕ) → Onward bytes₀ at₀ piece bytes at from → length piece ≤ from
+    → (line : List ℕ) → Kept bytes₀ at₀ line → Kept bytes at (lastLine line piece)
+onward-end bytes₀ at₀ piece bytes at from o h line k =
+    let q = o line k in
+    subst (Kept bytes at) (ap (lastLine (q .0)) (sym (drop-of-length-le piece {i = from} h)) ∙ q .2) (q .1)
+
+-- a line of which no byte is kept is empty
+no-bytes : (room : List ℕ) (line : List ℕ) → length room ≡ 1041 → Kept room 0 line → line ≡ []
+no-bytes room [] long k = refl
+no-bytes room (b ∷ line) long k = absurd (omega (arith, k .many))
+
+module _ (d : Desk) (bytes : List ℕ) (at : ℕ) (long : length bytes ≡ 1041) {table room out : List ℕ} where
+  pub finished-empty : at ≡ 0 → Finishing d bytes at table table room room out out (record { desk = d; written = 0 })
+  finished-empty z line k =
+      record { empty = λ e. (refl, refl, refl, refl); some = λ n. absurd (n (no-bytes bytes line long (subst (λ (i : ℕ). Kept bytes i line) z k))) }
+
+  pub finished-some : {table′ room′ out′ : List ℕ} {r : Turn} → (at ≡ 0 → ⊥) → DeskReply d (take at bytes) table table′ room room′ out out′ r → Finishing d bytes at table table′ room room′ out out′ r
+  finished-some n p line k =
+      record { empty = λ e. absurd (n (let z : length line ≡ 0 = ap length e in omega (arith, k .many))); some = λ h. whole-line d bytes at line long k p }

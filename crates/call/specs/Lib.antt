@@ -1,0 +1,2 @@
+-- The call program below its reads and writes.
+pub mod Steps

@@ -1,0 +1,39 @@
+-- `limits` meets its contract. Assumes nothing.
+use borrow.Author.Tests.{not-true, not-false}
+use Rattle.desk.proofs.Turns.{no-sheet, on-sheet}
+use borrow.Author.Needs.{needs}
+use Rattle.desk.proofs.Desk.limits.Statement.{statement}
+use Rattle.desk.proofs.Desk.limits.Tie as tie
+
+refused-requires : tie.Need-refused-requires
+refused-requires c κs = search needs
+
+same-length : tie.Need-same-length
+same-length c = search needs
+
+returns : tie.Need-returns
+returns c = no-sheet _ _ _ (not-true _ (c .before .before .before .before .if1 .taken)) (c .before .before .refused .ensures)
+
+put-limits-requires : tie.Need-put-limits-requires
+put-limits-requires c κs = search needs
+
+said-requires : tie.Need-said-requires
+said-requires c κs = search needs
+
+same-length-2 : tie.Need-same-length-2
+same-length-2 c = search needs
+
+returns-2 : tie.Need-returns-2
+returns-2 c = on-sheet _ _ _ (not-false _ (c .before .before .before .before .before .before .if1 .left)) _ (c .before .before .before .before .put-limits .ensures .whole) (c .before .before .said .ensures)
+
+pub limits-spec : {M : Type 1} → statement M
+limits-spec =
+    tie.close
+    (tie.spec
+    refused-requires
+    same-length
+    returns
+    put-limits-requires
+    said-requires
+    same-length-2
+    returns-2)

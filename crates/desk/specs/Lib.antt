@@ -1,0 +1,2 @@
+-- One line in, one reply out.
+pub mod Desk

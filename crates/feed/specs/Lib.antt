@@ -1,0 +1,4 @@
+-- The lines of an input that arrives in pieces.
+pub mod Lines
+pub mod Feeding
+pub mod Laws

@@ -1,0 +1,4 @@
+pub mod Standing
+pub mod Numerals
+pub mod Numbers
+pub mod Reading

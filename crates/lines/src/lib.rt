@@ -1,0 +1,160 @@
+// One line of a call, read: what it asks, or that it is not understood.
+pub mod fields;
+
+use crate::fields::four_after;
+use crate::fields::number_after;
+use crate::fields::stands;
+use terms::limits::Limits;
+ghost use mathlib.Core.Path.{_≡_};
+ghost use Rattle.lines.specs.Lines.{Reads};
+ghost use Rattle.lines.specs.Work.{ending, letterLine, limitsLine, openLine, lineOf};
+
+// The most bytes of a line before its line end.
+pub const BYTES: usize = 1040;
+
+// What a line asks. An opening's string is the rest of the line from a place on.
+pub enum Line {
+    Open {
+        limits: Limits,
+        complement: bool,
+        from: usize,
+    },
+    Letter {
+        place: usize,
+        byte: u8,
+    },
+    Limits {
+        limits: Limits,
+    },
+    TakeBack,
+    PutAgain,
+    Question,
+    Unknown,
+}
+
+// A number in a line, with the place after it.
+pub enum Number {
+    Is { value: usize, next: usize },
+    Not,
+}
+
+// Kind, m, g and d in a line, with the place after them.
+pub enum Four {
+    Are { limits: Limits, next: usize },
+    Missing,
+}
+
+// `L place byte`
+fn letter_line(s: &[u8]) -> Line
+    ensures { λ r. ⌜ r ≡ letterLine (now (s .entry)) ⌝ }
+{
+    let Number::Is { value: place, next } = number_after(s, 1) else {
+        return Line::Unknown;
+    };
+    let Number::Is {
+        value: byte,
+        next: end,
+    } = number_after(s, next)
+    else {
+        return Line::Unknown;
+    };
+    if end != s.len() {
+        return Line::Unknown;
+    }
+    if 255 < byte {
+        return Line::Unknown;
+    }
+    Line::Letter {
+        place,
+        byte: byte as u8,
+    }
+}
+
+// `M kind m g d`
+fn limits_line(s: &[u8]) -> Line
+    ensures { λ r. ⌜ r ≡ limitsLine (now (s .entry)) ⌝ }
+{
+    let Four::Are { limits, next: end } = four_after(s, 1) else {
+        return Line::Unknown;
+    };
+    if end != s.len() {
+        return Line::Unknown;
+    }
+    Line::Limits { limits }
+}
+
+// `O kind m g d map string`
+fn open_line(s: &[u8]) -> Line
+    ensures { λ r. ⌜ r ≡ openLine (now (s .entry)) ⌝ }
+{
+    let Four::Are { limits, next } = four_after(s, 1) else {
+        return Line::Unknown;
+    };
+    if !stands(s, next, 32) {
+        return Line::Unknown;
+    }
+    if !stands(s, next + 2, 32) {
+        return Line::Unknown;
+    }
+    let from = next + 3;
+    if stands(s, next + 1, 73) {
+        return Line::Open {
+            limits,
+            complement: false,
+            from,
+        };
+    }
+    if stands(s, next + 1, 67) {
+        return Line::Open {
+            limits,
+            complement: true,
+            from,
+        };
+    }
+    Line::Unknown
+}
+
+// A line of one letter and nothing else.
+fn alone(s: &[u8], line: Line) -> Line
+    ensures { λ r. ⌜ r ≡ ending (now (s .entry)) 1 line ⌝ }
+{
+    if s.len() == 1 {
+        return line;
+    }
+    Line::Unknown
+}
+
+// A line of any length.
+fn line_of(s: &[u8]) -> Line
+    ensures { λ r. ⌜ r ≡ lineOf (now (s .entry)) ⌝ }
+{
+    if stands(s, 0, b'O') {
+        return open_line(s);
+    }
+    if stands(s, 0, b'L') {
+        return letter_line(s);
+    }
+    if stands(s, 0, b'M') {
+        return limits_line(s);
+    }
+    if stands(s, 0, b'B') {
+        return alone(s, Line::TakeBack);
+    }
+    if stands(s, 0, b'A') {
+        return alone(s, Line::PutAgain);
+    }
+    if stands(s, 0, b'Q') {
+        return alone(s, Line::Question);
+    }
+    Line::Unknown
+}
+
+// One line, without its line end.
+pub fn parse(s: &[u8]) -> Line
+    ensures { λ r. ⌜ Reads (now (s .entry)) r ⌝ }
+{
+    if BYTES < s.len() {
+        return Line::Unknown;
+    }
+    line_of(s)
+}

@@ -1,0 +1,2 @@
+-- What the call program prints.
+pub mod Printing

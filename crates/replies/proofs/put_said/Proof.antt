@@ -1,0 +1,98 @@
+-- `put_said` meets its contract. Assumes nothing.
+use Rattle.printing.proofs.Laws.{put-length}
+use borrow.Author.Needs.{needs}
+use Rattle.replies.proofs.put_said.Statement.{statement}
+use Rattle.replies.proofs.put_said.Tie as tie
+
+enum-known-said : tie.Need-enum-known-said
+enum-known-said c = search needs
+
+slice-aggregate-put-line : tie.Need-slice-aggregate-put-line
+slice-aggregate-put-line c = search needs
+
+put-line-requires : tie.Need-put-line-requires
+put-line-requires c κs = search needs
+
+enum-known-said-2 : tie.Need-enum-known-said-2
+enum-known-said-2 c = search needs
+
+cast-t21 : tie.Need-cast-t21
+cast-t21 c = search needs
+
+cast-t22 : tie.Need-cast-t22
+cast-t22 c = search needs
+
+slice-aggregate-put-line-2 : tie.Need-slice-aggregate-put-line-2
+slice-aggregate-put-line-2 c = search needs
+
+put-line-requires-2 : tie.Need-put-line-requires-2
+put-line-requires-2 c κs = search needs
+
+enum-known-said-3 : tie.Need-enum-known-said-3
+enum-known-said-3 c = search needs
+
+slice-aggregate-put-line-3 : tie.Need-slice-aggregate-put-line-3
+slice-aggregate-put-line-3 c = search needs
+
+put-line-requires-3 : tie.Need-put-line-requires-3
+put-line-requires-3 c κs = search needs
+
+enum-known-said-4 : tie.Need-enum-known-said-4
+enum-known-said-4 c = search needs
+
+slice-aggregate-put-line-4 : tie.Need-slice-aggregate-put-line-4
+slice-aggregate-put-line-4 c = search needs
+
+put-line-requires-4 : tie.Need-put-line-requires-4
+put-line-requires-4 c κs = search needs
+
+same-length : tie.Need-same-length
+same-length c = search needs
+
+returns : tie.Need-returns
+returns c = rw (c .before .before .before .before .before .before .said .given .1) (c .before .before .put-line .ensures)
+
+same-length-2 : tie.Need-same-length-2
+same-length-2 c = search needs
+
+returns-2 : tie.Need-returns-2
+returns-2 c = rw (c .before .before .before .before .before .before .said2 .given .1) (c .before .before .put-line2 .ensures)
+
+same-length-3 : tie.Need-same-length-3
+same-length-3 c = search needs
+
+returns-3 : tie.Need-returns-3
+returns-3 c = rw (c .before .before .before .before .before .before .said3 .given .1) (c .before .before .put-line3 .ensures)
+
+same-length-4 : tie.Need-same-length-4
+same-length-4 c = search needs
+
+returns-4 : tie.Need-returns-4
+returns-4 c = rw (c .before .before .before .before .before .before .said4 .given .1) (c .before .before .put-line4 .ensures)
+
+pub put-said-spec : {M : Type 1} → statement M
+put-said-spec =
+    tie.close
+    (tie.spec
+    enum-known-said
+    slice-aggregate-put-line
+    put-line-requires
+    enum-known-said-2
+    cast-t21
+    cast-t22
+    slice-aggregate-put-line-2
+    put-line-requires-2
+    enum-known-said-3
+    slice-aggregate-put-line-3
+    put-line-requires-3
+    enum-known-said-4
+    slice-aggregate-put-line-4
+    put-line-requires-4
+    same-length
+    returns
+    same-length-2
+    returns-2
+    same-length-3
+    returns-3
+    same-length-4
+    returns-4)

@@ -1,0 +1,3 @@
+-- The text of every reply.
+pub mod Replies
+pub mod Work

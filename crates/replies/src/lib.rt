@@ -1,0 +1,117 @@
+// The text of every reply, put into a lent room.
+use printing::put_byte;
+use printing::put_line;
+use questions::Answer;
+use records::SIZE;
+use sheet::Said;
+ghost use mathlib.Core.Path.{_≡_};
+ghost use Prim.Native.Nat.{_+_, _*_, _≤_};
+ghost use lib.ListN.{length};
+ghost use Rattle.records.specs.Records.{recordSize};
+ghost use Rattle.sheet.specs.Calls.{numberOf};
+ghost use Rattle.printing.specs.Printing.{Put};
+ghost use Rattle.replies.specs.Replies.{refusalText, saidText, restoredText};
+ghost use Rattle.replies.specs.Work.{recordLine, recordLines};
+
+// A refusal: `!` and its number.
+pub fn put_refusal(out: &mut [u8], number: usize) -> usize
+    ensures { λ r. ⌜ Put (now (out .entry)) 0 (refusalText number) r (now (out .exit)) ⌝ }
+{
+    let numbers = [number];
+    put_line(out, 0, b'!', &numbers)
+}
+
+// The number of what a call says: 0 where it was accepted.
+pub fn number_of(said: Said) -> usize
+    ensures { λ r. ⌜ r ≡ numberOf said ⌝ }
+{
+    match said {
+        Said::Opened { n: _ } => 0,
+        Said::Letter {
+            place: _,
+            old: _,
+            new: _,
+            standing: _,
+        } => 0,
+        Said::Limits {
+            now: _,
+            standing: _,
+        } => 0,
+        Said::No { number } => number,
+    }
+}
+
+// The line of what a call says, from a place on.
+pub fn put_said(out: &mut [u8], at: usize, said: Said) -> usize
+    ensures { λ r. ⌜ Put (now (out .entry)) at (saidText said) r (now (out .exit)) ⌝ }
+{
+    match said {
+        Said::Opened { n } => {
+            let numbers = [n, 0];
+            put_line(out, at, b'O', &numbers)
+        }
+        Said::Letter {
+            place,
+            old,
+            new,
+            standing,
+        } => {
+            let numbers = [place, old as usize, new as usize, standing];
+            put_line(out, at, b'L', &numbers)
+        }
+        Said::Limits { now, standing } => {
+            let numbers = [now.kind, now.m, now.g, now.d, standing];
+            put_line(out, at, b'M', &numbers)
+        }
+        Said::No { number } => {
+            let numbers = [number];
+            put_line(out, at, b'!', &numbers)
+        }
+    }
+}
+
+// What a take-back or a put-again says: its letter, a space and the line of what was restored.
+pub fn put_restored(out: &mut [u8], letter: u8, said: Said) -> usize
+    ensures { λ r. ⌜ Put (now (out .entry)) 0 (restoredText letter said) r (now (out .exit)) ⌝ }
+{
+    if number_of(said) != 0 {
+        return put_said(out, 0, said);
+    }
+    let space = put_byte(out, 0, letter);
+    let at = put_byte(out, space, 32);
+    put_said(out, at, said)
+}
+
+// A number of two bytes, high byte first.
+fn pair(high: u8, low: u8) -> usize
+    ensures { λ r. ⌜ r ≡ high * 256 + low ⌝ }
+{
+    high as usize * 256 + low as usize
+}
+
+// The line of the record at a place of the room.
+fn put_record_line(out: &mut [u8], at: usize, room: &[u8], i: usize) -> usize
+    requires { ⌜ i + recordSize ≤ length (now room) ⌝ }
+    ensures { λ r. ⌜ Put (now (out .entry)) at (recordLine (now (room .entry)) i) r (now (out .exit)) ⌝ }
+{
+    let start = pair(room[i + 2], room[i + 3]);
+    let len = pair(room[i + 4], room[i + 5]);
+    let errors = pair(0, room[i + 1]);
+    let numbers = [start, len, errors];
+    put_line(out, at, room[i], &numbers)
+}
+
+// The lines of the first records of a room.
+pub fn put_record_lines(out: &mut [u8], at: usize, room: &[u8], parts: usize) -> usize
+    requires { ⌜ at ≤ length (now out) ⌝ }
+    requires { ⌜ recordSize * parts ≤ length (now room) ⌝ }
+    ensures { λ r. ⌜ Put (now (out .entry)) at (recordLines (now (room .entry)) parts) r (now (out .exit)) ⌝ }
+{
+    let mut end = at;
+    let mut k = 0;
+    while k < parts {
+        end = put_record_line(out, end, room, SIZE * k);
+        k += 1;
+    }
+    end
+}

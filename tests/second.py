@@ -1,0 +1,744 @@
+#!/usr/bin/env python3
+"""An independent second program for the call program and for inspection.
+
+Written from the build description (01) alone, by its definitions, so that it
+shares neither code nor ideas with the program that it is compared with.
+
+    python3 tests/second.py call        answers the call program's lines
+    python3 tests/second.py inspect     answers the inspect lines
+    python3 tests/second.py self-check  compares its two ways of tiling
+
+Short strings are tiled by brute force over all permitted tilings, longer ones
+by a plain table. The self-check shows that both ways agree.
+"""
+
+import itertools
+import sys
+
+MOST_LETTERS = 1000
+MOST_CHANGES = 64
+MOST_GAPS = 15
+MOST_ERRORS = 15
+MOST_LINE_BYTES = 1040
+NO_TILING = 65535
+BYTES_A_PART = 6
+LENT_FILL = 9
+
+# Brute force is for strings so short, and with so few tilings.
+BRUTE_LETTERS = 10
+BRUTE_TILINGS = 2500
+
+PIECE = "P"
+GAP = "G"
+
+PLAIN_MAP = bytes(range(256))
+COMPLEMENT_MAP = PLAIN_MAP.translate(bytes.maketrans(b"ATCG", b"TAGC"))
+SHORT_MAP = PLAIN_MAP[:255]
+SHIFTED_MAP = PLAIN_MAP[1:] + PLAIN_MAP[:1]
+
+CALL_MAPS = {b"I": PLAIN_MAP, b"C": COMPLEMENT_MAP}
+INSPECT_MAPS = {b"I": PLAIN_MAP, b"C": COMPLEMENT_MAP,
+                b"S": SHORT_MAP, b"X": SHIFTED_MAP}
+
+
+class Refusal(Exception):
+    """One of 01's numbers that say no."""
+
+    def __init__(self, number):
+        super().__init__(number)
+        self.number = number
+
+
+# Palindromes, by definition.
+
+def is_exact_palindrome(span, letter_map):
+    length = len(span)
+    return length >= 1 and all(
+        span[k] == letter_map[span[length - 1 - k]] for k in range(length))
+
+
+def error_count(span, letter_map):
+    length = len(span)
+    unequal_pairs = sum(
+        1 for k in range(length)
+        if k < length - 1 - k and span[k] != letter_map[span[length - 1 - k]])
+    middle = span[length // 2]
+    odd_middle = length % 2 == 1 and middle != letter_map[middle]
+    return unequal_pairs + (1 if odd_middle else 0)
+
+
+def spans_at_centre(letters, centre):
+    """All spans (start, length) with first place + last place = centre."""
+    for first in range(len(letters)):
+        last = centre - first
+        if first <= last < len(letters):
+            yield first, last - first + 1
+
+
+def maximal_length_by_definition(letters, letter_map, centre, d):
+    lengths = [length for start, length in spans_at_centre(letters, centre)
+               if error_count(letters[start:start + length], letter_map) <= d]
+    return max(lengths, default=0)
+
+
+def maximal_length(letters, letter_map, centre, d):
+    """Grows outward from the centre: a longer span never has fewer errors."""
+    first, last = centre // 2, (centre + 1) // 2
+    errors, longest = 0, 0
+    while first >= 0 and last < len(letters):
+        if letters[first] != letter_map[letters[last]]:
+            errors += 1
+        if errors > d:
+            break
+        longest = last - first + 1
+        first, last = first - 1, last + 1
+    return longest
+
+
+def maximal_lengths(letters, letter_map, d):
+    return [maximal_length(letters, letter_map, centre, d)
+            for centre in range(2 * len(letters) - 1)]
+
+
+def start_of_span(centre, length):
+    return (centre + 1 - length) // 2
+
+
+# Brute force over all tilings. A part is (sort, start, length, errors).
+
+def is_piece_by_definition(letters, letter_map, limits, start, length):
+    kind, m, _, d = limits
+    span = letters[start:start + length]
+    if length < m:
+        return False
+    if kind == 1:
+        return is_exact_palindrome(span, letter_map)
+    centre = start + (start + length - 1)
+    return length == maximal_length_by_definition(
+        letters, letter_map, centre, d)
+
+
+def pieces_by_definition(letters, letter_map, limits):
+    """For each start the pieces of the whole string that begin there."""
+    count = len(letters)
+    return [
+        [(PIECE, start, length,
+          error_count(letters[start:start + length], letter_map))
+         for length in range(1, count - start + 1)
+         if is_piece_by_definition(letters, letter_map, limits, start, length)]
+        for start in range(count)]
+
+
+def all_tilings(pieces, start, gaps_left, after_gap=False):
+    """Every permitted tiling of the letters from start onward."""
+    if start == len(pieces):
+        yield ()
+        return
+    for piece in pieces[start]:
+        for rest in all_tilings(pieces, start + piece[2], gaps_left):
+            yield (piece,) + rest
+    if gaps_left > 0 and not after_gap:
+        for length in range(1, len(pieces) - start + 1):
+            gap = (GAP, start, length, 0)
+            for rest in all_tilings(
+                    pieces, start + length, gaps_left - 1, after_gap=True):
+                yield (gap,) + rest
+
+
+def gap_total(tiling):
+    return sum(length for sort, _, length, _ in tiling if sort == GAP)
+
+
+def gap_count(tiling):
+    return sum(1 for part in tiling if part[0] == GAP)
+
+
+def order_key(tiling):
+    """Least total first; then, at the first part where two tilings differ, a
+    piece before a gap, a longer piece and a shorter gap first."""
+    return gap_total(tiling), [
+        (0, -length) if sort == PIECE else (1, length)
+        for sort, _, length, _ in tiling]
+
+
+def brute_row(tilings, g):
+    """The least gap totals with at most 0, 1, .. g gaps."""
+    return [min((gap_total(tiling) for tiling in tilings
+                 if gap_count(tiling) <= q), default=NO_TILING)
+            for q in range(g + 1)]
+
+
+def tile_by_brute_force(letters, letter_map, limits):
+    """(parts or None, table), or None where there are too many tilings."""
+    g = limits[2]
+    pieces = pieces_by_definition(letters, letter_map, limits)
+    table = []
+    whole = None
+    for start in range(len(letters) + 1):
+        tilings = list(itertools.islice(
+            all_tilings(pieces, start, g), BRUTE_TILINGS + 1))
+        if len(tilings) > BRUTE_TILINGS:
+            return None
+        table.extend(brute_row(tilings, g))
+        if start == 0:
+            whole = min(tilings, key=order_key, default=None)
+    return whole, table
+
+
+# The plain table, for strings of any length.
+
+# Stands for 'no tiling' while totals are still added up.
+ENDLESS = 10 ** 6
+
+
+def piece_ends(letters, letter_map, limits):
+    """For each start the places after its pieces, longest piece first."""
+    kind, m, _, d = limits
+    ends = [[] for _ in letters]
+    for centre, longest in enumerate(maximal_lengths(letters, letter_map, d)):
+        # Exact palindromes nest: all shorter spans of the centre are exact.
+        shortest = longest if kind == 2 else 1
+        for length in range(longest, max(shortest, m) - 1, -2):
+            if length >= 1:
+                start = start_of_span(centre, length)
+                ends[start].append(start + length)
+    for places in ends:
+        places.sort(reverse=True)
+    return ends
+
+
+def least_totals(ends, g):
+    """Two lists of rows, rows by q and entries by place: the least totals of
+    all tilings of the rest, and of those that don't begin with a gap."""
+    n = len(ends)
+    least, no_gap_first = [], []
+    for q in range(g + 1):
+        row = [ENDLESS] * n + [0]
+        pieces_row = [ENDLESS] * n + [0]
+        gap_first = ENDLESS
+        for start in range(n - 1, -1, -1):
+            if ends[start]:
+                pieces_row[start] = min(map(row.__getitem__, ends[start]))
+            if q > 0:
+                gap_first = 1 + min(gap_first, no_gap_first[q - 1][start + 1])
+            row[start] = min(pieces_row[start], gap_first)
+        least.append(row)
+        no_gap_first.append(pieces_row)
+    return least, no_gap_first
+
+
+def longest_fitting_piece(ends, row, start, total):
+    for end in ends[start]:
+        if row[end] == total:
+            return end
+    return None
+
+
+def shortest_fitting_gap(pieces_row, start, total):
+    for end in range(start + 1, len(pieces_row)):
+        if end - start + pieces_row[end] == total:
+            return end
+    raise AssertionError("the table promises a gap that isn't there")
+
+
+def first_tiling(ends, least, no_gap_first, g):
+    """Walks the table, each time with the first part that keeps the total."""
+    n = len(ends)
+    start, q, total = 0, g, least[g][0]
+    after_gap = False
+    spans = []
+    while start < n:
+        end = longest_fitting_piece(ends, least[q], start, total)
+        sort = PIECE
+        if end is None:
+            assert not after_gap and q > 0
+            q -= 1
+            end = shortest_fitting_gap(no_gap_first[q], start, total)
+            sort = GAP
+            total -= end - start
+        after_gap = sort == GAP
+        spans.append((sort, start, end - start))
+        start = end
+    return spans
+
+
+def with_errors(spans, letters, letter_map):
+    return tuple(
+        (sort, start, length,
+         error_count(letters[start:start + length], letter_map)
+         if sort == PIECE else 0)
+        for sort, start, length in spans)
+
+
+def tile_by_table(letters, letter_map, limits):
+    g = limits[2]
+    ends = piece_ends(letters, letter_map, limits)
+    least, no_gap_first = least_totals(ends, g)
+    table = [min(least[q][start], NO_TILING)
+             for start in range(len(letters) + 1) for q in range(g + 1)]
+    if least[g][0] >= ENDLESS:
+        return None, table
+    spans = first_tiling(ends, least, no_gap_first, g)
+    return with_errors(spans, letters, letter_map), table
+
+
+def tile(letters, letter_map, limits):
+    """(parts or None where no tiling exists, table)."""
+    if len(letters) <= BRUTE_LETTERS:
+        answer = tile_by_brute_force(letters, letter_map, limits)
+        if answer is not None:
+            return answer
+    return tile_by_table(letters, letter_map, limits)
+
+
+# Refusals, each list in testing order.
+
+def refuse_letters_and_map(letters, letter_map):
+    if len(letters) > MOST_LETTERS:
+        raise Refusal(1)
+    if len(letter_map) != 256:
+        raise Refusal(2)
+    if any(letter_map[letter_map[x]] != x for x in range(256)):
+        raise Refusal(3)
+
+
+def refuse_limits(kind, m, g, d):
+    if kind not in (1, 2):
+        raise Refusal(4)
+    if m == 0 or m > MOST_LETTERS or g > MOST_GAPS or d > MOST_ERRORS:
+        raise Refusal(5)
+    if kind == 1 and d != 0:
+        raise Refusal(5)
+
+
+# The sheet.
+
+class Sheet:
+    """One string and its limits during a call, with the two lists."""
+
+    def __init__(self, letters, letter_map, kind, m, g, d):
+        refuse_letters_and_map(letters, letter_map)
+        refuse_limits(kind, m, g, d)
+        self.letters = list(letters)
+        self.letter_map = letter_map
+        self.limits = (kind, m, g, d)
+        self.standing = []
+        self.taken_back = []
+
+    def change_letter(self, place, letter):
+        if place >= len(self.letters):
+            raise Refusal(6)
+        self.refuse_when_full()
+        return self.accept(("L", place, self.letters[place], letter))
+
+    def change_limits(self, kind, m, g, d):
+        refuse_limits(kind, m, g, d)
+        self.refuse_when_full()
+        return self.accept(("M", None, self.limits, (kind, m, g, d)))
+
+    def refuse_when_full(self):
+        if len(self.standing) >= MOST_CHANGES:
+            raise Refusal(7)
+
+    def accept(self, change):
+        self.taken_back = []
+        self.standing.append(change)
+        return self.carry_out(change)
+
+    def take_back(self):
+        if not self.standing:
+            raise Refusal(8)
+        change = self.standing.pop()
+        self.taken_back.append(change)
+        sort, place, old, new = change
+        return self.carry_out((sort, place, new, old))
+
+    def put_again(self):
+        if not self.taken_back:
+            raise Refusal(9)
+        change = self.taken_back.pop()
+        self.standing.append(change)
+        return self.carry_out(change)
+
+    def carry_out(self, change):
+        """Makes the change and says it back with the number standing."""
+        sort, place, old, new = change
+        if sort == "L":
+            self.letters[place] = new
+            said = (place, old, new)
+        else:
+            self.limits = new
+            said = new
+        return line_of(sort, *said, len(self.standing))
+
+
+# Lines, in and out.
+
+def line_of(*fields):
+    return " ".join(str(field) for field in fields) + "\n"
+
+
+def refusal_line(number):
+    return line_of("!", number)
+
+
+def number_from(field):
+    """A number of 1 to 4 digits without a leading zero, or refusal 13."""
+    if not 1 <= len(field) <= 4 or any(c not in b"0123456789" for c in field):
+        raise Refusal(13)
+    if len(field) > 1 and field[:1] == b"0":
+        raise Refusal(13)
+    return int(field)
+
+
+def numbers_from(fields):
+    return [number_from(field) for field in fields]
+
+
+def byte_from(field):
+    value = number_from(field)
+    if value > 255:
+        raise Refusal(13)
+    return value
+
+
+def map_from(field, known_maps):
+    if field not in known_maps:
+        raise Refusal(13)
+    return known_maps[field]
+
+
+def fields_of(line, count, string_last=False):
+    """Exactly count fields; a string may hold spaces itself and is last."""
+    fields = line.split(b" ", count - 1) if string_last else line.split(b" ")
+    if len(fields) != count:
+        raise Refusal(13)
+    return fields
+
+
+def lines_of(data):
+    """The lines of whole input: an empty rest without line end is none."""
+    lines = data.split(b"\n")
+    if lines[-1] == b"":
+        lines.pop()
+    return lines
+
+
+# The call program.
+
+class CallProgram:
+    """Keeps the open sheet and answers one line at a time."""
+
+    def __init__(self):
+        self.sheet = None
+
+    def answer(self, line):
+        try:
+            if len(line) > MOST_LINE_BYTES:
+                raise Refusal(13)
+            return self.answer_fields(line).encode("ascii")
+        except Refusal as refusal:
+            return refusal_line(refusal.number).encode("ascii")
+
+    def answer_fields(self, line):
+        sort = line[:1]
+        if sort == b"O":
+            return self.open(line)
+        if sort == b"L":
+            name, place, byte = fields_of(line, 3)
+            numbers = number_from(place), byte_from(byte)
+        elif sort == b"M":
+            name, *limits = fields_of(line, 5)
+            numbers = numbers_from(limits)
+        else:
+            name, numbers = line, ()
+        calls = {b"L": Sheet.change_letter, b"M": Sheet.change_limits,
+                 b"B": said_back("B", Sheet.take_back),
+                 b"A": said_back("A", Sheet.put_again), b"Q": question_lines}
+        if name not in calls:
+            raise Refusal(13)
+        if self.sheet is None:
+            raise Refusal(14)
+        return calls[name](self.sheet, *numbers)
+
+    def open(self, line):
+        name, kind, m, g, d, map_name, string = fields_of(
+            line, 7, string_last=True)
+        limits = numbers_from([kind, m, g, d])
+        letter_map = map_from(map_name, CALL_MAPS)
+        if name != b"O":
+            raise Refusal(13)
+        # A refusal leaves here before the former sheet is replaced.
+        self.sheet = Sheet(string, letter_map, *limits)
+        return line_of("O", len(string), 0)
+
+
+def said_back(letter, call):
+    return lambda sheet: letter + " " + call(sheet)
+
+
+def question_lines(sheet):
+    parts, _ = tile(bytes(sheet.letters), sheet.letter_map, sheet.limits)
+    if parts is None:
+        raise Refusal(10)
+    return line_of("Q", gap_total(parts), len(parts), gap_count(parts)) \
+        + "".join(line_of(*part) for part in parts)
+
+
+# The inspect lines.
+
+def records_of(parts):
+    records = []
+    for sort, start, length, errors in parts:
+        records += [ord(sort), errors, start // 256, start % 256,
+                    length // 256, length % 256]
+    return records
+
+
+def fill(lent, values):
+    """Later entries stay."""
+    lent[:len(values)] = values
+
+
+def room_line(letter, lent):
+    return line_of(letter, *lent)
+
+
+def ask_tiling(letters, letter_map, limits, table, room):
+    """The tiling question after the opening's tests: number, total, parts
+    and gaps. Fills the lent table and room as 01 says they stand."""
+    if len(table) < (len(letters) + 1) * (limits[2] + 1):
+        return 11, 0, 0, 0
+    parts, entries = tile(letters, letter_map, limits)
+    fill(table, entries)
+    if parts is None:
+        return 10, 0, 0, 0
+    if len(parts) * BYTES_A_PART > len(room):
+        return 12, 0, len(parts), 0
+    fill(room, records_of(parts))
+    return 0, gap_total(parts), len(parts), gap_count(parts)
+
+
+def inspect_tiling(fields):
+    """T asks without a sheet, S opens a sheet and asks that."""
+    letter, kind, m, g, d, map_name, entries, room_bytes, string = fields
+    limits = tuple(numbers_from([kind, m, g, d]))
+    letter_map = map_from(map_name, INSPECT_MAPS)
+    table = [LENT_FILL] * number_from(entries)
+    room = [LENT_FILL] * number_from(room_bytes)
+    try:
+        sheet = Sheet(string, letter_map, *limits)
+        reply = ask_tiling(
+            bytes(sheet.letters), sheet.letter_map, sheet.limits, table, room)
+    except Refusal as refusal:
+        if letter == b"S":
+            raise
+        reply = refusal.number, 0, 0, 0
+    return line_of(letter.decode(), *reply) \
+        + room_line("E", table) + room_line("R", room)
+
+
+def ask_centres(letters, letter_map, d, lent):
+    refuse_letters_and_map(letters, letter_map)
+    if d > MOST_ERRORS:
+        raise Refusal(5)
+    lengths = maximal_lengths(letters, letter_map, d)
+    if len(lent) < len(lengths):
+        raise Refusal(11)
+    fill(lent, lengths)
+    return len(lengths)
+
+
+def inspect_centres(fields):
+    _, d, map_name, entries, string = fields
+    d = number_from(d)
+    letter_map = map_from(map_name, INSPECT_MAPS)
+    lent = [LENT_FILL] * number_from(entries)
+    try:
+        reply = 0, ask_centres(string, letter_map, d, lent)
+    except Refusal as refusal:
+        reply = refusal.number, 0
+    return line_of("C", *reply) + room_line("E", lent)
+
+
+def longest_palindrome_by_definition(letters, letter_map):
+    """(start, length), the first of the longest; (0, 0) where none is."""
+    for length in range(len(letters), 0, -1):
+        for start in range(len(letters) - length + 1):
+            span = letters[start:start + length]
+            if is_exact_palindrome(span, letter_map):
+                return start, length
+    return 0, 0
+
+
+def longest_palindrome(letters, letter_map):
+    lengths = maximal_lengths(letters, letter_map, 0)
+    longest = max(lengths, default=0)
+    if longest == 0:
+        return 0, 0
+    starts = [start_of_span(centre, length)
+              for centre, length in enumerate(lengths) if length == longest]
+    return min(starts), longest
+
+
+def longest_part(letters, letter_map):
+    start, length = longest_palindrome(letters, letter_map)
+    return letters[start:start + length]
+
+
+def longer_of_two(first, second, letter_map):
+    parts = longest_part(first, letter_map), longest_part(second, letter_map)
+    return parts[1] if len(parts[1]) > len(parts[0]) else parts[0]
+
+
+def part_lines(letter, number, part):
+    return line_of(letter, number, len(part)) + room_line("R", part)
+
+
+def inspect_longest(fields):
+    _, map_name, string = fields
+    letter_map = map_from(map_name, INSPECT_MAPS)
+    try:
+        refuse_letters_and_map(string, letter_map)
+    except Refusal as refusal:
+        return part_lines("P", refusal.number, b"")
+    return part_lines("P", 0, longest_part(string, letter_map))
+
+
+def inspect_longer(fields):
+    _, map_name, count, string = fields
+    letter_map = map_from(map_name, INSPECT_MAPS)
+    count = number_from(count)
+    if count > len(string):
+        raise Refusal(13)
+    first, second = string[:count], string[count:]
+    try:
+        # Either string too long comes before any fault of the map.
+        refuse_letters_and_map(max(first, second, key=len), letter_map)
+    except Refusal as refusal:
+        return part_lines("W", refusal.number, b"")
+    return part_lines("W", 0, longer_of_two(first, second, letter_map))
+
+
+INSPECT_LINES = {
+    b"T": (9, inspect_tiling),
+    b"S": (9, inspect_tiling),
+    b"C": (5, inspect_centres),
+    b"P": (3, inspect_longest),
+    b"W": (4, inspect_longer),
+}
+
+
+class InspectProgram:
+    """Answers one line at a time; nothing is kept between lines."""
+
+    def answer(self, line):
+        try:
+            name = line.split(b" ", 1)[0]
+            if len(line) > MOST_LINE_BYTES or name not in INSPECT_LINES:
+                raise Refusal(13)
+            count, inspect = INSPECT_LINES[name]
+            return inspect(fields_of(line, count, True)).encode("ascii")
+        except Refusal as refusal:
+            return refusal_line(refusal.number).encode("ascii")
+
+
+# The self-check: both ways of each question must agree.
+
+def small_strings(alphabet, most):
+    for length in range(most + 1):
+        for letters in itertools.product(alphabet, repeat=length):
+            yield bytes(letters)
+
+
+def small_limits():
+    for kind, m, g, d in itertools.product(
+            (1, 2), (1, 2, 3), (0, 1, 2, 3), (0, 1, 2)):
+        if kind == 2 or d == 0:
+            yield kind, m, g, d
+
+
+def must_agree(what, case, one, other):
+    if one != other:
+        sys.exit("self-check FAILED: %s of %r: %r and %r"
+                 % (what, case, one, other))
+
+
+def check_tiling(letters, letter_map, limits):
+    brute = tile_by_brute_force(letters, letter_map, limits)
+    if brute is None:
+        return 0
+    parts, table = tile_by_table(letters, letter_map, limits)
+    case = letters, letter_map == PLAIN_MAP, limits
+    must_agree("table", case, brute[1], table)
+    must_agree("parts", case, brute[0], parts)
+    total = NO_TILING if parts is None else gap_total(parts)
+    must_agree("total", case, total, table[limits[2]])
+    return 1
+
+
+def check_palindromes(letters, letter_map):
+    must_agree("longest", letters, longest_palindrome(letters, letter_map),
+               longest_palindrome_by_definition(letters, letter_map))
+    for d in range(3):
+        must_agree("centres", letters, maximal_lengths(letters, letter_map, d),
+                   [maximal_length_by_definition(letters, letter_map, c, d)
+                    for c in range(2 * len(letters) - 1)])
+
+
+def check_every_small_string():
+    count = 0
+    for alphabet, letter_map in ((b"AC", PLAIN_MAP), (b"AT", COMPLEMENT_MAP),
+                                 (b"AN", COMPLEMENT_MAP)):
+        for letters in small_strings(alphabet, 6):
+            check_palindromes(letters, letter_map)
+            for limits in small_limits():
+                count += check_tiling(letters, letter_map, limits)
+    return count
+
+
+def check_random_strings(random_source, rounds):
+    count = 0
+    for _ in range(rounds):
+        letter_map = random_source.choice([PLAIN_MAP, COMPLEMENT_MAP])
+        alphabet = random_source.choice([b"AC", b"AT", b"ACN", b"ACGT"])
+        length = random_source.randrange(6, 12)
+        letters = bytes(random_source.choices(alphabet, k=length))
+        kind = random_source.choice([1, 2])
+        d = random_source.randrange(4) if kind == 2 else 0
+        m = random_source.randrange(1, 6)
+        limits = kind, m, random_source.randrange(5), d
+        check_palindromes(letters, letter_map)
+        count += check_tiling(letters, letter_map, limits)
+    return count
+
+
+def self_check():
+    import random
+    random_source = random.Random(1)
+    count = check_every_small_string()
+    count += check_random_strings(random_source, 600)
+    print("self-check: %d tilings agree" % count)
+
+
+def run_lines(program):
+    for line in sys.stdin.buffer:
+        if line.endswith(b"\n"):
+            line = line[:-1]
+        sys.stdout.buffer.write(program.answer(line))
+        sys.stdout.buffer.flush()
+
+
+def main(arguments):
+    if arguments == ["call"]:
+        run_lines(CallProgram())
+    elif arguments == ["inspect"]:
+        run_lines(InspectProgram())
+    elif arguments == ["self-check"]:
+        self_check()
+    else:
+        sys.exit("usage: second.py call | inspect | self-check")
+
+
+if __name__ == "__main__":
+    main(sys.argv[1:])
