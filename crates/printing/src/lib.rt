@@ -30,8 +30,8 @@ pub fn put_bytes(room: &mut [u8], at: usize, bytes: &[u8]) -> usize
     end
 }
 
-// Puts a space and a number behind it.
-fn put_field(room: &mut [u8], at: usize, n: usize) -> usize
+// Puts a space and a number behind it. Lent to `inspect`.
+pub fn put_field(room: &mut [u8], at: usize, n: usize) -> usize
     ensures { λ r. ⌜ Put (now (room .entry)) at (fields (n ∷ [])) r (now (room .exit)) ⌝ }
 {
     let mut digits = [0u8; 20];

@@ -1,0 +1,47 @@
+-- What a field that was read tells of its place and of its number. Assumes nothing.
+use mathlib.Core.Path.{_≡_, sym, _∙_, subst}
+use mathlib.Core.Bool.{Bool, false, not}
+use mathlib.Core.List.{List}
+use Prim.Native.Nat.{ℕ, _+_, _≤_, _<_}
+use native.Mathlib.Omega.{arith}
+use borrow.Author.Tests.{not-false}
+use lib.ListN.{length}
+use Rattle.lines.specs.Work.{stands, numberAfter}
+use Rattle.lines.specs.declared.Number.{Number}
+use Rattle.lines.specs.declared.Number.the-variants.{Is}
+use Rattle.lines.proofs.Standing.{stands-in}
+use Rattle.lines.proofs.Numbers.{After, after-sound}
+use Rattle.terms.specs.declared.limits.Limits.{Limits}
+use Rattle.inspect.specs.Asking.{Behind, Fits}
+use Rattle.inspect.specs.declared.maps.Map.{Map}
+use Rattle.inspect.specs.declared.asks.Ask.{Ask}
+use Rattle.inspect.specs.declared.asks.Ask.the-variants.{Tiling, Centres, Longest, Longer}
+use Rattle.inspect.specs.declared.asks.Named.{Named}
+use Rattle.inspect.specs.declared.asks.Named.the-variants.{Is as NamedIs, Not as NotNamed}
+
+-- a byte that stands at a place stands in the line
+pub place-in : (xs : List ℕ) (i b : ℕ) (r : Bool) → r ≡ stands xs i b → not r ≡ false → i < length xs
+place-in xs i b r e left = stands-in xs i b (sym e ∙ not-false r left)
+
+-- a number has at most 4 digits
+pub four-digits : (xs : List ℕ) (i : ℕ) (r : Number) (v n : ℕ) → r ≡ numberAfter xs i → r ≡ Is v n → v ≤ 9999
+four-digits xs i r v n e g = let h = subst (After xs i) (sym e ∙ g) (after-sound xs i) in omega (arith, h .0)
+
+-- a place at most one is at most a later one
+pub behind-more : (a b : ℕ) (r : Named) → a ≤ b → Behind a r → Behind b r
+behind-more a b (NamedIs map next) h p = omega arith
+behind-more a b NotNamed h p = tt
+
+-- what fits a line that is read, by what it asks
+module _ (xs : List ℕ) (r : Ask) (p : Fits xs r) where
+  pub tiling-fits : (s : Bool) (l : Limits) (m : Map) (t o f : ℕ) → r ≡ Tiling s l m t o f → (t ≤ 9999) × (o ≤ 9999) × (f ≤ length xs)
+  tiling-fits s l m t o f e = subst (Fits xs) e p
+
+  pub centres-fits : (d : ℕ) (m : Map) (t f : ℕ) → r ≡ Centres d m t f → (t ≤ 9999) × (f ≤ length xs)
+  centres-fits d m t f e = subst (Fits xs) e p
+
+  pub longest-fits : (m : Map) (f : ℕ) → r ≡ Longest m f → f ≤ length xs
+  longest-fits m f e = subst (Fits xs) e p
+
+  pub longer-fits : (m : Map) (n f : ℕ) → r ≡ Longer m n f → f + n ≤ length xs
+  longer-fits m n f e = subst (Fits xs) e p

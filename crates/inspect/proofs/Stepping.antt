@@ -1,0 +1,35 @@
+-- What a feed tells of where it stops. Assumes nothing.
+use mathlib.Core.Path.{_≡_, sym}
+use mathlib.Core.List.{List}
+use Prim.Native.Nat.{ℕ, _-_, _≤_, _<_}
+use native.Mathlib.Omega.{arith}
+use native.Mathlib.Decide.{decLe}
+use borrow.Author.Tests.{lt-ltb, le-ltb}
+use lib.ListN.{length, take, drop, length-take, length-drop}
+use lib.Seq.{take-all}
+use Rattle.feed.specs.Feeding.{upToEnd, Kept, Feeds, TakesOn}
+use Rattle.feed.specs.declared.Fed.{Fed}
+use Rattle.feed.proofs.Ends.{within}
+
+-- the first bytes of a room are a line that it keeps
+itself : (room : List ℕ) (at : ℕ) → at ≤ length room → Kept room at (take at room)
+itself room at h =
+    let l = length-take at room in
+    record { many = omega arith; bytes = sym (take-all (length room) (take at room) (omega arith)) }
+
+module _ (room : List ℕ) (at : ℕ) (piece : List ℕ) (from : ℕ) (room′ : List ℕ) (r : Fed) (f : TakesOn room at piece from room′ r) (h : at ≤ length room) where
+  fed : Feeds (take at room) piece from room′ r
+  fed = f (take at room) (itself room at h)
+
+  pub kept-in : r .at ≤ length room′
+  kept-in = omega (arith, fed .kept .many)
+
+  pub goes-on : from < length piece → (from < r .from) × (r .from ≤ length piece)
+  goes-on inside =
+      let bs : List ℕ = drop from piece in
+      let l : length bs ≡ length piece - from = length-drop from piece in
+      let w : length (upToEnd bs) ≤ length bs = within bs in
+      elim (decLe (length bs) (length (upToEnd bs))) [
+        | yes e ↦ let n = rw (le-ltb (length (upToEnd bs)) (length bs) e) at (fed .next) in (omega arith, omega arith)
+        | no e ↦ let n = rw (lt-ltb (length (upToEnd bs)) (length bs) (omega arith)) at (fed .next) in (omega arith, omega arith)
+      ]

@@ -1,0 +1,75 @@
+-- `centres_line` meets its contract. Assumes nothing.
+use Rattle.inspect.proofs.Reading.{place-in, four-digits}
+use native.Mathlib.Omega.{arith}
+use borrow.Author.Needs.{needs}
+use Rattle.inspect.proofs.asks.centres_line.Statement.{statement}
+use Rattle.inspect.proofs.asks.centres_line.Tie as tie
+
+number-after-requires : tie.Need-number-after-requires
+number-after-requires c κs = search needs
+
+enum-known-d : tie.Need-enum-known-d
+enum-known-d c = search needs
+
+enum-told : tie.Need-enum-told
+enum-told c = search needs
+
+returns : tie.Need-returns
+returns c = search needs
+
+map-after-requires : tie.Need-map-after-requires
+map-after-requires c κs = search needs
+
+enum-known-map : tie.Need-enum-known-map
+enum-known-map c = search needs
+
+enum-told-2 : tie.Need-enum-told-2
+enum-told-2 c = search needs
+
+returns-2 : tie.Need-returns-2
+returns-2 c = search needs
+
+number-after-requires-2 : tie.Need-number-after-requires-2
+number-after-requires-2 c κs = search needs
+
+enum-known-entries : tie.Need-enum-known-entries
+enum-known-entries c = search needs
+
+enum-told-3 : tie.Need-enum-told-3
+enum-told-3 c = search needs
+
+returns-3 : tie.Need-returns-3
+returns-3 c = search needs
+
+stands-requires : tie.Need-stands-requires
+stands-requires c κs = search needs
+
+returns-4 : tie.Need-returns-4
+returns-4 c = search needs
+
+add-t13 : tie.Need-add-t13
+add-t13 c = let h = place-in _ _ _ _ (c .before .stands .ensures) (c .if1 .left) in omega arith
+
+returns-5 : tie.Need-returns-5
+returns-5 c = let h = place-in _ _ _ _ (c .before .stands .ensures) (c .if1 .left) in (four-digits _ _ _ _ _ (c .before .before .before .before .before .number-after2 .ensures) (c .before .before .before .entries .given .1), omega arith)
+
+pub centres-line-spec : {M : Type 1} → statement M
+centres-line-spec =
+    tie.close
+    (tie.spec
+    number-after-requires
+    enum-known-d
+    enum-told
+    returns
+    map-after-requires
+    enum-known-map
+    enum-told-2
+    returns-2
+    number-after-requires-2
+    enum-known-entries
+    enum-told-3
+    returns-3
+    stands-requires
+    returns-4
+    add-t13
+    returns-5)

@@ -1,0 +1,21 @@
+-- What a line that is read asks for: places in the line, and slices no longer than four digits can name.
+use mathlib.Core.List.{List}
+use Prim.Native.Nat.{ℕ, _+_, _≤_, _<_}
+use lib.ListN.{length}
+use Rattle.inspect.specs.declared.asks.Ask.{Ask}
+use Rattle.inspect.specs.declared.asks.Ask.the-variants.{Tiling, Centres, Longest, Longer, Unknown}
+use Rattle.inspect.specs.declared.asks.Named.{Named}
+use Rattle.inspect.specs.declared.asks.Named.the-variants.{Is, Not}
+
+-- The place after a map's letter is at most a given one.
+abbrev pub Behind : ℕ → Named → Type 0
+Behind most (Is map next) = next ≤ most
+Behind most Not = Unit {0}
+
+-- The string stands in the line, the first of two strings too, and four digits name the slices' lengths.
+abbrev pub Fits : List ℕ → Ask → Type 0
+Fits xs (Tiling sheet limits map table room from) = (table ≤ 9999) × (room ≤ 9999) × (from ≤ length xs)
+Fits xs (Centres d map entries from) = (entries ≤ 9999) × (from ≤ length xs)
+Fits xs (Longest map from) = from ≤ length xs
+Fits xs (Longer map first from) = from + first ≤ length xs
+Fits xs Unknown = Unit {0}

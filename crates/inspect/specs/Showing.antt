@@ -1,0 +1,20 @@
+-- What is printed of a call: its numbers, and every entry and byte of the lent slices.
+use mathlib.Core.List.{List, [], _∷_, _++_}
+use Prim.Native.Nat.{ℕ}
+use lib.ListN.{length}
+use Rattle.questions.specs.declared.Answer.{Answer}
+use Rattle.spans.specs.declared.CentreCount.{CentreCount}
+use Rattle.printing.specs.Printing.{printed}
+
+-- `T` or `S` with the answer's numbers, `E` with the table, `R` with the room.
+abbrev pub tilingText : ℕ → Answer → List ℕ → List ℕ → List ℕ
+tilingText letter a table room =
+    printed letter (a .number ∷ a .total ∷ a .parts ∷ a .gaps ∷ []) ++ (printed 69 table ++ printed 82 room)
+
+-- `C` with the fill's numbers, `E` with the entries.
+abbrev pub centresText : CentreCount → List ℕ → List ℕ
+centresText found entries = printed 67 (found .number ∷ found .count ∷ []) ++ printed 69 entries
+
+-- `P` or `W` with the refusal and the part's length, `R` with the part.
+abbrev pub partText : ℕ → ℕ → List ℕ → List ℕ
+partText letter number part = printed letter (number ∷ length part ∷ []) ++ printed 82 part

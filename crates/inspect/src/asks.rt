@@ -1,0 +1,214 @@
+// One line read: what it asks, or that it is not understood.
+use crate::maps::Map;
+use lines::BYTES;
+use lines::Four;
+use lines::Number;
+use lines::fields::four_after;
+use lines::fields::number_after;
+use lines::fields::stands;
+use terms::limits::Limits;
+ghost use lib.ListN.{length};
+ghost use Rattle.inspect.specs.Asking.{Behind, Fits};
+
+// What a line asks. Its string is the rest of the line from a place on.
+pub enum Ask {
+    Tiling {
+        on_sheet: bool,
+        limits: Limits,
+        map: Map,
+        table: usize,
+        room: usize,
+        from: usize,
+    },
+    Centres {
+        d: usize,
+        map: Map,
+        entries: usize,
+        from: usize,
+    },
+    Longest {
+        map: Map,
+        from: usize,
+    },
+    Longer {
+        map: Map,
+        first: usize,
+        from: usize,
+    },
+    Unknown,
+}
+
+// A map named in a line, with the place after its letter.
+pub enum Named {
+    Is { map: Map, next: usize },
+    Not,
+}
+
+// The map that a letter names, with the place after the letter.
+fn map_at(letter: u8, next: usize) -> Named
+    ensures { λ r. ⌜ Behind next r ⌝ }
+{
+    match letter {
+        b'I' => Named::Is {
+            map: Map::Plain,
+            next,
+        },
+        b'C' => Named::Is {
+            map: Map::Complement,
+            next,
+        },
+        b'S' => Named::Is {
+            map: Map::Short,
+            next,
+        },
+        b'X' => Named::Is {
+            map: Map::Shifted,
+            next,
+        },
+        _ => Named::Not,
+    }
+}
+
+// A space at a place, and the map's letter behind it.
+fn map_after(s: &[u8], i: usize) -> Named
+    ensures { λ r. ⌜ Behind (length (now (s .entry))) r ⌝ }
+{
+    if !stands(s, i, 32) {
+        return Named::Not;
+    }
+    let at = i + 1;
+    if s.len() <= at {
+        return Named::Not;
+    }
+    map_at(s[at], at + 1)
+}
+
+// `T kind m g d map table room string`, and the same with `S`
+fn tiling_line(s: &[u8], on_sheet: bool) -> Ask
+    ensures { λ r. ⌜ Fits (now (s .entry)) r ⌝ }
+{
+    let Four::Are { limits, next: a } = four_after(s, 1) else {
+        return Ask::Unknown;
+    };
+    let Named::Is { map, next: b } = map_after(s, a) else {
+        return Ask::Unknown;
+    };
+    let Number::Is {
+        value: table,
+        next: c,
+    } = number_after(s, b)
+    else {
+        return Ask::Unknown;
+    };
+    let Number::Is {
+        value: room,
+        next: e,
+    } = number_after(s, c)
+    else {
+        return Ask::Unknown;
+    };
+    if !stands(s, e, 32) {
+        return Ask::Unknown;
+    }
+    Ask::Tiling {
+        on_sheet,
+        limits,
+        map,
+        table,
+        room,
+        from: e + 1,
+    }
+}
+
+// `C d map entries string`
+fn centres_line(s: &[u8]) -> Ask
+    ensures { λ r. ⌜ Fits (now (s .entry)) r ⌝ }
+{
+    let Number::Is { value: d, next: a } = number_after(s, 1) else {
+        return Ask::Unknown;
+    };
+    let Named::Is { map, next: b } = map_after(s, a) else {
+        return Ask::Unknown;
+    };
+    let Number::Is {
+        value: entries,
+        next: c,
+    } = number_after(s, b)
+    else {
+        return Ask::Unknown;
+    };
+    if !stands(s, c, 32) {
+        return Ask::Unknown;
+    }
+    Ask::Centres {
+        d,
+        map,
+        entries,
+        from: c + 1,
+    }
+}
+
+// `P map string`
+fn longest_line(s: &[u8]) -> Ask
+    ensures { λ r. ⌜ Fits (now (s .entry)) r ⌝ }
+{
+    let Named::Is { map, next } = map_after(s, 1) else {
+        return Ask::Unknown;
+    };
+    if !stands(s, next, 32) {
+        return Ask::Unknown;
+    }
+    Ask::Longest {
+        map,
+        from: next + 1,
+    }
+}
+
+// `W map first string`, where the string has at least `first` letters
+fn longer_line(s: &[u8]) -> Ask
+    ensures { λ r. ⌜ Fits (now (s .entry)) r ⌝ }
+{
+    let Named::Is { map, next: a } = map_after(s, 1) else {
+        return Ask::Unknown;
+    };
+    let Number::Is {
+        value: first,
+        next: b,
+    } = number_after(s, a)
+    else {
+        return Ask::Unknown;
+    };
+    if !stands(s, b, 32) {
+        return Ask::Unknown;
+    }
+    let from = b + 1;
+    if s.len() - from < first {
+        return Ask::Unknown;
+    }
+    Ask::Longer { map, first, from }
+}
+
+// One line, without its line end. Each form's reader sees to the space behind the letter.
+pub fn read(s: &[u8]) -> Ask
+    ensures { λ r. ⌜ Fits (now (s .entry)) r ⌝ }
+{
+    if BYTES < s.len() {
+        return Ask::Unknown;
+    }
+    if stands(s, 0, b'T') {
+        return tiling_line(s, false);
+    }
+    if stands(s, 0, b'S') {
+        return tiling_line(s, true);
+    }
+    if stands(s, 0, b'C') {
+        return centres_line(s);
+    }
+    if stands(s, 0, b'P') {
+        return longest_line(s);
+    }
+    if stands(s, 0, b'W') {
+        return longer_line(s);
+    }
+    Ask::Unknown
+}
