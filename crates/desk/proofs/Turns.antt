@@ -34,7 +34,8 @@ use Rattle.replies.specs.Work.{recordLines}
 use Rattle.replies.proofs.Lines.{lines-of-records}
 use Rattle.desk.specs.declared.Desk.{Desk}
 use Rattle.desk.specs.declared.Turn.{Turn}
-use Rattle.desk.specs.Desk.{withSheet, mapOf, opening, calling, Turned, Does, AskedOf, DeskReply}
+use Rattle.desk.specs.Desk.{withSheet, mapOf, opening, calling, Does, DeskReply}
+use Rattle.desk.specs.Work.{Turned, AskedOf}
 
 -- a call: 14, or what the sheet's call says
 module _ (d : Desk) (reply : Reply) (show : Said → List ℕ) {out out′ : List ℕ} {r : Turn} where

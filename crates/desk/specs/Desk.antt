@@ -1,7 +1,7 @@
 -- One line in, one reply out (01, "The call program"): 13, then 14, then the call.
 use mathlib.Core.Path.{_≡_}
 use mathlib.Core.Bool.{Bool, true, false, cond}
-use mathlib.Core.List.{List, [], _∷_, _++_}
+use mathlib.Core.List.{List}
 use mathlib.Core.Logic.{_⊎_}
 use Prim.Native.Nat.{ℕ, _<_}
 use lib.Dec.{eqb}
@@ -45,10 +45,6 @@ opening d r = (cond (eqb (numberOf (r .said)) 0) (withSheet (r .sheet)) d, saidT
 unfoldable pub calling : Desk → Reply → (Said → List ℕ) → Desk × List ℕ
 calling d r show = cond (d .opened) (withSheet (r .sheet), show (r .said)) (d, refusalText 14)
 
--- The desk after a line and the text of its reply, put at the start of the room `out`.
-abbrev pub Turned : Desk × List ℕ → List ℕ → List ℕ → Turn → Type 0
-Turned o out out′ r = (r .desk ≡ o .0) × Put out 0 (o .1) (r .written) out′
-
 -- What a question prints: its refusal, or the figures and parts of the tiling given.
 pub record Shown (s : Sheet) (table table′ room room′ text : List ℕ) : Type 0 where
   pub answer : Answer
@@ -72,11 +68,6 @@ Does d xs Question t t′ m m′ o =
     ((d .opened ≡ false) × (o ≡ (d, refusalText 14)) × Stay t t′ m m′)
     ⊎ ((d .opened ≡ true) × (o .0 ≡ d) × Shown (d .sheet) t t′ m m′ (o .1))
 Does d xs Unknown t t′ m m′ o = (o ≡ (d, refusalText 13)) × Stay t t′ m m′
-
--- The same of a question: its text is put at the start of the room `out`.
-abbrev pub AskedOf : Desk → List ℕ → List ℕ → List ℕ → List ℕ → List ℕ → List ℕ → Turn → Type 0
-AskedOf d table table′ room room′ out out′ r =
-    (text : List ℕ) × Does d [] Question table table′ room room′ (r .desk, text) × Put out 0 text (r .written) out′
 
 -- The reply to the line xs: the line is read, what it brings about is settled, and its text is put at the start of the room `out`.
 pub record DeskReply (d : Desk) (xs table table′ room room′ out out′ : List ℕ) (r : Turn) : Type 0 where

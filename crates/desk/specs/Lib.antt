@@ -1,2 +1,3 @@
 -- One line in, one reply out.
 pub mod Desk
+pub mod Work

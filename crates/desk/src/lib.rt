@@ -18,7 +18,8 @@ ghost use Rattle.sheet.specs.Calls.{openCall, letterCall, limitsCall, takeBackC
 ghost use Rattle.lines.specs.Lines.{Reads};
 ghost use Rattle.printing.specs.Printing.{Put};
 ghost use Rattle.replies.specs.Replies.{saidText, restoredText, refusalText};
-ghost use Rattle.desk.specs.Desk.{newDesk, withSheet, mapOf, opening, calling, Turned, AskedOf, DeskReply};
+ghost use Rattle.desk.specs.Desk.{newDesk, withSheet, mapOf, opening, calling, DeskReply};
+ghost use Rattle.desk.specs.Work.{Turned, AskedOf};
 
 // A sheet, if one is open.
 pub struct Desk {
