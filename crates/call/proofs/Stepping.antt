@@ -1,7 +1,7 @@
 -- A step, and a whole piece. Assumes nothing.
 use mathlib.Core.Path.{_≡_, refl, sym, ap, _∙_, subst}
 use mathlib.Core.Bool.{Bool, true, false}
-use mathlib.Core.List.{List, [], _∷_, _++_}
+use mathlib.Core.List.{List, [], _∷_, _++_, append-assoc, append-nil}
 use Prim.Native.Nat.{ℕ, _+_, _-_, _≤_, _<_, min}
 use native.Mathlib.Omega.{arith}
 use native.Mathlib.Decide.{decLe}
@@ -22,7 +22,7 @@ use Rattle.desk.specs.Desk.{Does, DeskReply}
 use Rattle.desk.specs.declared.Desk.{Desk}
 use Rattle.desk.specs.declared.Turn.{Turn}
 use Rattle.call.specs.declared.Progress.{Progress}
-use Rattle.call.specs.Steps.{lineNow, Ended, Unended, Stepped, Stepping, Reading, Finished, Finishing}
+use Rattle.call.specs.Steps.{lineNow, Ended, Unended, Stepped, Stepping, Answered, Answers, Reading, Finished, Finishing}
 
 pub kept-none : (room : List ℕ) → Kept room 0 []
 kept-none room = record { many = omega arith; bytes = sym (take-nil (length room)) }
@@ -98,32 +98,66 @@ module _ (bytes bytes′ : List ℕ) (at : ℕ) (piece : List ℕ) (from : ℕ) 
               };
         }
 
--- So far in a piece: whatever line the bytes kept at its start are of, those kept now are of one with the same last line.
-abbrev pub Onward : List ℕ → ℕ → List ℕ → List ℕ → ℕ → ℕ → Type 0
-Onward bytes₀ at₀ piece bytes at from =
-    (line : List ℕ) → Kept bytes₀ at₀ line → (now : List ℕ) × Kept bytes at now × (lastLine now (drop from piece) ≡ lastLine line piece)
+-- one line more
+answers-more : (d e f : Desk) (lines : List (List ℕ)) (line : List ℕ) → Answers d lines e → Answered e line f → Answers d (lines ++ (line ∷ [])) f
+answers-more d e f [] line a p = (f, subst (λ (z : Desk). Answered z line f) a p, refl)
+answers-more d e f (l ∷ lines) line a p = (a .0, a .1, answers-more (a .0) e f lines line (a .2) p)
 
-pub onward-start : (bytes : List ℕ) (at : ℕ) (piece : List ℕ) → Onward bytes at piece bytes at 0
-onward-start bytes at piece line k = (line, k, refl)
+-- So far in a piece: whatever line the bytes kept at its start are of, some lines are answered, and those kept now are of one with the same lines left.
+pub record Sofar (d : Desk) (piece bytes : List ℕ) (at from : ℕ) (desk : Desk) (line : List ℕ) : Type 0 where
+  pub now : List ℕ
+  pub kept : Kept bytes at now
+  pub last : lastLine now (drop from piece) ≡ lastLine line piece
+  pub done : List (List ℕ)
+  pub answers : Answers d done desk
+  pub lines : done ++ wholeLines now (drop from piece) ≡ wholeLines line piece
 
-pub onward-next : (d : Desk) (bytes₀ : List ℕ) (at₀ : ℕ) (piece bytes : List ℕ) (at from : ℕ) (bytes′ table table′ room room′ out out′ : List ℕ) (r : Progress)
-    → Onward bytes₀ at₀ piece bytes at from → Stepping d bytes bytes′ at piece from table table′ room room′ out out′ r → Onward bytes₀ at₀ piece bytes′ (r .at) (r .from)
-onward-next d bytes₀ at₀ piece bytes at from bytes′ table table′ room room′ out out′ r o s line k = go (ends (drop from piece)) refl
+abbrev pub Onward : Desk → List ℕ → ℕ → List ℕ → List ℕ → ℕ → ℕ → Desk → Type 0
+Onward d bytes₀ at₀ piece bytes at from desk = (line : List ℕ) → Kept bytes₀ at₀ line → Sofar d piece bytes at from desk line
+
+pub onward-start : (d : Desk) (bytes : List ℕ) (at : ℕ) (piece : List ℕ) → Onward d bytes at piece bytes at 0 d
+onward-start d bytes at piece line k = record { now = line; kept = k; last = refl; done = []; answers = refl; lines = refl }
+
+pub onward-next : (d desk : Desk) (bytes₀ : List ℕ) (at₀ : ℕ) (piece bytes : List ℕ) (at from : ℕ) (bytes′ table table′ room room′ out out′ : List ℕ) (r : Progress)
+    → Onward d bytes₀ at₀ piece bytes at from desk → Stepping desk bytes bytes′ at piece from table table′ room room′ out out′ r
+    → Onward d bytes₀ at₀ piece bytes′ (r .at) (r .from) (r .desk)
+onward-next d desk bytes₀ at₀ piece bytes at from bytes′ table table′ room room′ out out′ r o s line k = go (ends (drop from piece)) refl
   where
-    was : (now : List ℕ) × Kept bytes at now × (lastLine now (drop from piece) ≡ lastLine line piece)
+    was : Sofar d piece bytes at from desk line
     was = o line k
 
-    go : (t : Bool) → ends (drop from piece) ≡ t → (now : List ℕ) × Kept bytes′ (r .at) now × (lastLine now (drop (r .from) piece) ≡ lastLine line piece)
-    go true e = let q = s (was .0) (was .1) .ended e in ([], q .kept, sym (q .last) ∙ was .2)
-    go false e =
-        let q = s (was .0) (was .1) .unended e in
-        (lineNow (was .0) piece from, q .kept, ap (lastLine (lineNow (was .0) piece from)) (q .done) ∙ sym (q .last) ∙ was .2)
+    this : List ℕ
+    this = lineNow (was .now) piece from
 
-pub onward-end : (bytes₀ : List ℕ) (at₀ : ℕ) (piece bytes : List ℕ) (at from : ℕ) → Onward bytes₀ at₀ piece bytes at from → length piece ≤ from
-    → (line : List ℕ) → Kept bytes₀ at₀ line → Kept bytes at (lastLine line piece)
-onward-end bytes₀ at₀ piece bytes at from o h line k =
+    go : (t : Bool) → ends (drop from piece) ≡ t → Sofar d piece bytes′ (r .at) (r .from) (r .desk) line
+    go true e =
+        let q = s (was .now) (was .kept) .ended e in
+        record {
+          now = [];
+          kept = q .kept;
+          last = sym (q .last) ∙ was .last;
+          done = was .done ++ (this ∷ []);
+          answers = answers-more d desk (r .desk) (was .done) this (was .answers) (record { table = table; table′ = table′; room = room; room′ = room′; out = out; out′ = out′; written = r .written; reply = q .reply });
+          lines = append-assoc (was .done) (this ∷ []) (wholeLines [] (drop (r .from) piece)) ∙ ap (λ (z : List (List ℕ)). was .done ++ z) (sym (q .first)) ∙ was .lines;
+        }
+    go false e =
+        let q = s (was .now) (was .kept) .unended e in
+        record {
+          now = this;
+          kept = q .kept;
+          last = ap (lastLine this) (q .done) ∙ sym (q .last) ∙ was .last;
+          done = was .done;
+          answers = subst (Answers d (was .done)) (sym (q .desk)) (was .answers);
+          lines = ap (λ (z : List ℕ). was .done ++ wholeLines this z) (q .done) ∙ ap (λ (z : List (List ℕ)). was .done ++ z) (sym (q .none)) ∙ was .lines;
+        }
+
+pub onward-end : (d desk : Desk) (bytes₀ : List ℕ) (at₀ : ℕ) (piece bytes : List ℕ) (at from : ℕ) → Onward d bytes₀ at₀ piece bytes at from desk → length piece ≤ from
+    → (line : List ℕ) → Kept bytes₀ at₀ line → Kept bytes at (lastLine line piece) × Answers d (wholeLines line piece) desk
+onward-end d desk bytes₀ at₀ piece bytes at from o h line k =
     let q = o line k in
-    subst (Kept bytes at) (ap (lastLine (q .0)) (sym (drop-of-length-le piece {i = from} h)) ∙ q .2) (q .1)
+    let e : drop from piece ≡ [] = drop-of-length-le piece {i = from} h in
+    let all : q .done ≡ wholeLines line piece = sym (append-nil (q .done)) ∙ ap (λ (z : List ℕ). q .done ++ wholeLines (q .now) z) (sym e) ∙ q .lines in
+    (subst (Kept bytes at) (ap (lastLine (q .now)) (sym e) ∙ q .last) (q .kept), subst (λ (z : List (List ℕ)). Answers d z desk) all (q .answers))
 
 -- a line of which no byte is kept is empty
 no-bytes : (room : List ℕ) (line : List ℕ) → length room ≡ 1041 → Kept room 0 line → line ≡ []

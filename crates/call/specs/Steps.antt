@@ -44,9 +44,26 @@ abbrev pub Stepping : Desk → List ℕ → List ℕ → ℕ → List ℕ → �
 Stepping d bytes bytes′ at piece from table table′ room room′ out out′ r =
     (line : List ℕ) → Kept bytes at line → Stepped d line bytes′ piece from table table′ room room′ out out′ r
 
--- A whole piece: what is kept afterwards is of the bytes behind its last line end.
-abbrev pub Reading : List ℕ → List ℕ → ℕ → List ℕ → Between → Type 0
-Reading bytes bytes′ at piece r = (line : List ℕ) → Kept bytes at line → Kept bytes′ (r .at) (lastLine line piece)
+-- One line answered: the desk before and after.
+pub record Answered (d : Desk) (line : List ℕ) (d′ : Desk) : Type 0 where
+  pub table : List ℕ
+  pub table′ : List ℕ
+  pub room : List ℕ
+  pub room′ : List ℕ
+  pub out : List ℕ
+  pub out′ : List ℕ
+  pub written : ℕ
+  pub reply : DeskReply d line table table′ room room′ out out′ (record { desk = d′; written = written })
+
+-- Lines answered one after the other, each at the desk that the one before left.
+abbrev pub Answers : Desk → List (List ℕ) → Desk → Type 0
+Answers d [] d′ = d′ ≡ d
+Answers d (line ∷ lines) d′ = (e : Desk) × Answered d line e × Answers e lines d′
+
+-- A whole piece: its lines are answered one after the other, and what is kept afterwards is of the bytes behind its last line end.
+abbrev pub Reading : Desk → List ℕ → List ℕ → ℕ → List ℕ → Between → Type 0
+Reading d bytes bytes′ at piece r =
+    (line : List ℕ) → Kept bytes at line → Kept bytes′ (r .at) (lastLine line piece) × Answers d (wholeLines line piece) (r .desk)
 
 -- The end of the input: the line that has no line end is answered if it isn't empty; else nothing is answered or touched.
 pub record Finished (d : Desk) (line table table′ room room′ out out′ : List ℕ) (r : Turn) : Type 0 where

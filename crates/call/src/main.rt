@@ -72,7 +72,7 @@ fn answer_piece(
 ) -> Between
     requires { ⌜ (length (now bytes) ≡ 1041) × (at ≤ 1041) ⌝ }
     ensures { λ r. ⌜ r .at ≤ 1041 ⌝ }
-    ensures { λ r. ⌜ Reading (now (bytes .entry)) (now (bytes .exit)) at (now (piece .entry)) r ⌝ }
+    ensures { λ r. ⌜ Reading desk (now (bytes .entry)) (now (bytes .exit)) at (now (piece .entry)) r ⌝ }
 {
     let mut s = Progress {
         desk,

@@ -8,13 +8,13 @@ use Rattle.call.proofs.answer_piece.Statement.{statement}
 use Rattle.call.proofs.answer_piece.Tie as tie
 
 abbrev Inv-loop : tie.InvT-loop
-Inv-loop bytes₀ at piece table₀ room₀ out₀ s₀ bytes table room out s = ((length bytes ≡ 1041) × (s .at ≤ 1041) × (s .from ≤ length piece) × (length table ≡ length table₀) × (length room ≡ length room₀) × (length out ≡ length out₀)) × Onward bytes₀ at piece bytes (s .at) (s .from)
+Inv-loop bytes₀ at piece table₀ room₀ out₀ s₀ bytes table room out s = ((length bytes ≡ 1041) × (s .at ≤ 1041) × (s .from ≤ length piece) × (length table ≡ length table₀) × (length room ≡ length room₀) × (length out ≡ length out₀)) × Onward (s₀ .desk) bytes₀ at piece bytes (s .at) (s .from) (s .desk)
 
 abbrev μ-loop : tie.MeasureT-loop
 μ-loop bytes₀ at piece table₀ room₀ out₀ s₀ bytes table room out s = length piece - s .from
 
 loop-holds : tie.Need-loop-holds Inv-loop μ-loop
-loop-holds c = (omega arith, onward-start _ _ (c .before .before .before .before .before .args .piece .now))
+loop-holds c = (omega arith, onward-start _ _ _ (c .before .before .before .before .before .args .piece .now))
 
 step-requires : tie.Need-step-requires Inv-loop μ-loop
 step-requires c κs = omega arith
@@ -35,7 +35,7 @@ loop-less : tie.Need-loop-less Inv-loop μ-loop
 loop-less c = omega arith
 
 loop-again : tie.Need-loop-again Inv-loop μ-loop
-loop-again c = (omega arith, onward-next _ _ _ _ _ _ _ _ _ _ _ _ _ _ _ (c .before .before .before .before .before .before .before .before .before .before .before .before .before .before .before .before .before .before .before .loop .inv .1) (c .before .before .before .before .before .before .before .before .before .before .before .step .ensures .1))
+loop-again c = (omega arith, onward-next _ _ _ _ _ _ _ _ _ _ _ _ _ _ _ _ (c .before .before .before .before .before .before .before .before .before .before .before .before .before .before .before .before .before .before .before .loop .inv .1) (c .before .before .before .before .before .before .before .before .before .before .before .step .ensures .1))
 
 same-length : tie.Need-same-length Inv-loop μ-loop
 same-length c = omega arith
@@ -50,7 +50,7 @@ same-length-4 : tie.Need-same-length-4 Inv-loop μ-loop
 same-length-4 c = omega arith
 
 returns : tie.Need-returns Inv-loop μ-loop
-returns c = (omega arith, onward-end _ _ _ _ _ _ (c .before .before .before .loop .inv .1) (c .before .if1 .left))
+returns c = (omega arith, onward-end _ _ _ _ _ _ _ _ (c .before .before .before .loop .inv .1) (c .before .if1 .left))
 
 pub answer-piece-spec : {M : Type 1} → statement M
 answer-piece-spec =
