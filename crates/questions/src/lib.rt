@@ -5,6 +5,7 @@ use records::put_parts;
 use spans::fill_lengths;
 use table::at;
 use table::fill_table;
+use terms::CENTRES;
 use terms::LETTERS;
 use terms::limits::Limits;
 use terms::texts;
@@ -123,9 +124,6 @@ fn tile_by(
     fill_table(lens, n, kind, m, g, table);
     hand_over(s, map, lens, limits, table, room)
 }
-
-// The most centres of a string.
-pub const CENTRES: usize = 1999;
 
 // The tiling question: fills the table, and writes the records of the tiling given.
 pub fn tile(s: &[u8], map: &[u8], limits: Limits, table: &mut [u16], room: &mut [u8]) -> Answer

@@ -2,4 +2,5 @@
 pub mod Index
 pub mod Testing
 pub mod Rows
+pub mod Dropping
 pub mod Tabled

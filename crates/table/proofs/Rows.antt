@@ -4,6 +4,7 @@ use mathlib.Core.List.{List, [], _∷_}
 use mathlib.Core.Logic.{inl, inr, ⊎-elim}
 use Prim.Native.Nat.{ℕ, zero, suc, _+_, _-_, _*_, _≤_, _<_}
 use native.Mathlib.Omega.{arith}
+use native.Mathlib.Decide.{ℕ-discrete}
 use native.Mathlib.Nat.{add-zero, add-assoc, mul-le-mul-right}
 use native.Mathlib.Numerals.{add-one}
 use lib.ListN.{length, getD, set}
@@ -12,16 +13,21 @@ use Rattle.terms.proofs.Order.{le-or-lt}
 use Rattle.terms.proofs.Ranges.{Filled, fill-none, fill-up}
 use Rattle.tilings.specs.Tilings.{Board, Part, piece, gap, gaps, Entry, entries}
 use Rattle.tilings.specs.Work.{Best, Gaps, Lesser}
-use Rattle.tilings.proofs.Best.{entry-best, best-entry, best-same, pieces-start, pieces-skip, pieces-more, pieces-all, all-best, gaps-step}
+use Rattle.tilings.proofs.Best.{entry-best, best-entry, best-same, pieces-start, pieces-jump, pieces-more, pieces-all, all-best, gaps-step}
 use Rattle.table.specs.Work.{Known, PieceRow, PieceRowUnder, GapRow}
 
--- Rows of tilings that begin with a piece: none yet, one length more that is no piece or is one, all.
+-- Rows of tilings that begin with a piece: none yet, further lengths that are no pieces, one that is, all.
 pub row-none : {g : ℕ} {before after : List ℕ} → Cleared g before after → g < length before → (B : Board) (i m : ℕ) → ((L : ℕ) → B .Piece i L → m ≤ L) → PieceRowUnder B g i m after
 row-none c w B i m h = record { wide = rw (c .long) w; at = λ q k. rw (c .at q k) (pieces-start B i q m h) }
 
 module _ {B : Board} {g i M : ℕ} {row : List ℕ} (r : PieceRowUnder B g i M row) where
+  pub row-jump : {N : ℕ} → M ≤ N → ((L : ℕ) → B .Piece i L → L < N → L < M) → PieceRowUnder B g i N row
+  row-jump {N} l h = record { wide = r .wide; at = λ q k. pieces-jump B i q M N _ l h (r .at q k) }
+
   pub row-skip : (B .Piece i M → ⊥) → PieceRowUnder B g i (M + 1) row
-  row-skip h = record { wide = r .wide; at = λ q k. pieces-skip B i q M _ h (r .at q k) }
+  row-skip h =
+      row-jump (omega arith)
+      (λ L p l. elim (ℕ-discrete L M) [ yes e ↦ absurd (h (subst (B .Piece i) e p)) | no e ↦ omega arith ])
 
   pub row-more : {t after : List ℕ} → Known B g (i + 1) t → 1 ≤ M → i + M ≤ B .size → B .Piece i M → Lowered g row t ((i + M) * (g + 1)) after → PieceRowUnder B g i (M + 1) after
   row-more k s h p l =

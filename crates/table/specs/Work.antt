@@ -2,6 +2,7 @@
 use mathlib.Core.List.{List}
 use Prim.Native.Nat.{ℕ, _+_, _*_, _≤_, _<_}
 use lib.ListN.{length, getD}
+use Rattle.ways.specs.Ways.{On, Step, Next}
 use Rattle.tilings.specs.Tilings.{Board, Part, Entry, entries}
 use Rattle.tilings.specs.Work.{Best, Pieces, Firsts, Gaps}
 
@@ -24,3 +25,17 @@ PieceRowUnder B g i M row = Row (λ q. Pieces B i q M) g row
 
 abbrev pub GapRow : Board → ℕ → ℕ → List ℕ → Type 0
 GapRow B g i row = Row (λ q. Gaps B i q) g row
+
+-- The way of i stands at the centre c, behind `last`: between the two there is no piece of a start up to i.
+pub record Along (lens : List ℕ) (n kind m i last c : ℕ) : Type 0 where
+  pub back : last ≤ c
+  pub step : Step lens n kind m i last c
+  pub on : c < n + i → On lens n kind m i c
+  pub low : c < n + i → i + i + m ≤ c + 1
+
+-- The centre c is looked at: the last one kept leads on from c.
+pub record Looked (lens : List ℕ) (n kind m i c r : ℕ) (next : List ℕ) : Type 0 where
+  pub back : r ≤ c
+  pub later : c < getD next r 0
+  pub step : Step lens n kind m i c (getD next r 0)
+  pub steps : Next lens n kind m i next

@@ -8,3 +8,6 @@ pub const LETTERS: usize = 1000;
 
 // The most changes that stand.
 pub const CHANGES: usize = 64;
+
+// The most centres of a string.
+pub const CENTRES: usize = 2 * LETTERS - 1;

@@ -75,21 +75,18 @@ module _ (B : Board) (i q : ℕ) where
       no-one (piece L ∷ ps) p = let k : m ≤ L = h L (p .0 .tiles .0) in let j : L < m = p .1 in omega arith
       no-one (gap L ∷ ps) p = p .1
 
-  pub pieces-skip : (M v : ℕ) → (B .Piece i M → ⊥) → Best (Pieces B i q M) v → Best (Pieces B i q (M + 1)) v
-  pieces-skip M v h = best-same (Pieces B i q M) (Pieces B i q (M + 1)) v into back
+  -- every piece shorter than N is shorter than M
+  pub pieces-jump : (M N v : ℕ) → M ≤ N → ((L : ℕ) → B .Piece i L → L < N → L < M) → Best (Pieces B i q M) v → Best (Pieces B i q N) v
+  pieces-jump M N v le h = best-same (Pieces B i q M) (Pieces B i q N) v into back
     where
-      into : (ps : List Part) → Pieces B i q M ps → Pieces B i q (M + 1) ps
+      into : (ps : List Part) → Pieces B i q M ps → Pieces B i q N ps
       into [] p = p
       into (piece L ∷ ps) p = (p .0, omega arith)
       into (gap L ∷ ps) p = p
 
-      back : (ps : List Part) → Pieces B i q (M + 1) ps → Pieces B i q M ps
+      back : (ps : List Part) → Pieces B i q N ps → Pieces B i q M ps
       back [] p = p
-      back (piece L ∷ ps) p =
-          ⊎-elim
-          (λ (k : L < M). (p .0, k))
-          (λ (k : M < suc L). let e : L ≡ M = omega arith in absurd (h (subst (B .Piece i) e (p .0 .tiles .0))))
-          (le-or-lt (suc L) M)
+      back (piece L ∷ ps) p = (p .0, h L (p .0 .tiles .0) (p .1))
       back (gap L ∷ ps) p = p
 
   -- one piece more, of length M, before the best of what follows it

@@ -1,0 +1,2 @@
+-- Working notions of the ways.
+pub mod Ways
