@@ -1,8 +1,8 @@
 #!/usr/bin/env python3
 """An independent second program for the call program and for inspection.
 
-Written from the build description (01) alone, by its definitions, so that it
-shares neither code nor ideas with the program that it is compared with.
+Written from the build description (01) and from how docs/DECISIONS.md reads it, by
+the definitions, so that it shares no code with the program that it is compared with.
 
     python3 tests/second.py call        answers the call program's lines
     python3 tests/second.py inspect     answers the inspect lines

@@ -44,17 +44,19 @@ kept-on {room} {at} {line} (x ∷ part) {r} k p =
           (record { many = omega arith; bytes = rw (take-append-le (length room) line (x ∷ part)) (k .bytes) })
     ]
 
+-- the bytes of the piece up to `end` are those of the line
+pub line-put : (piece : List ℕ) (from : ℕ) {room : List ℕ} {at kept end : ℕ} {room′ : List ℕ} → end ≡ from + length (upToEnd (drop from piece))
+    → Put room at (take (end - from) (drop from piece)) kept room′ → Put room at (upToEnd (drop from piece)) kept room′
+line-put piece from {end = end} e p =
+    let n : end - from ≡ length (upToEnd (drop from piece)) = omega arith in
+    rw (← front (drop from piece), ← n) p
+
 -- a feed, where the bytes of the piece up to `end` were put: there the line ends, or the piece
 module _ {room : List ℕ} {at : ℕ} {piece : List ℕ} {from kept : ℕ} {room′ : List ℕ} {end : ℕ}
     (e : end ≡ from + length (upToEnd (drop from piece))) (p : Put room at (take (end - from) (drop from piece)) kept room′) where
   feeds : (w : Bool) → ends (drop from piece) ≡ w → TakesOn room at piece from room′ (record { at = kept; from = end + cond w 1 0; whole = w })
   feeds w h line k =
-      let n : end - from ≡ length (upToEnd (drop from piece)) = omega arith in
-      record {
-        kept = rw (← front (drop from piece), ← n) (kept-on (take (end - from) (drop from piece)) k p);
-        whole = sym h;
-        next = rw h (omega arith);
-      }
+      record { kept = kept-on (upToEnd (drop from piece)) k (line-put piece from e p); whole = sym h; next = rw h (omega arith) }
 
   pub line-ends : end < length piece → TakesOn room at piece from room′ (record { at = kept; from = end + 1; whole = true })
   line-ends h = feeds true (lt-ltb (length (upToEnd (drop from piece))) (length (drop from piece)) (omega (arith, length-drop from piece)))

@@ -3,6 +3,7 @@ use printing::put_bytes;
 ghost use mathlib.Core.Path.{_≡_};
 ghost use Prim.Native.Nat.{_+_, _≤_};
 ghost use lib.ListN.{length, drop};
+ghost use Rattle.printing.specs.Printing.{Put};
 ghost use Rattle.feed.specs.Feeding.{upToEnd, TakesOn};
 
 // The line end.
@@ -30,11 +31,12 @@ fn end_of(piece: &[u8], from: usize) -> usize
     i
 }
 
-// Takes a line on, of which the room keeps `at` bytes, from place `from` of a piece to its next line end, or to the piece's end.
+// Takes a line on, of which the room keeps `at` bytes, from place `from` of a piece to its next line end, or to the piece's end; the room's later bytes stay.
 pub fn feed(room: &mut [u8], at: usize, piece: &[u8], from: usize) -> Fed
     requires { ⌜ at ≤ length (now room) ⌝ }
     requires { ⌜ from ≤ length (now piece) ⌝ }
     ensures { λ r. ⌜ TakesOn (now (room .entry)) at (now (piece .entry)) from (now (room .exit)) r ⌝ }
+    ensures { λ r. ⌜ Put (now (room .entry)) at (upToEnd (drop from (now (piece .entry)))) (r .at) (now (room .exit)) ⌝ }
 {
     let end = end_of(piece, from);
     let kept = put_bytes(room, at, &piece[from..end]);

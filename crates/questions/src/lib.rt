@@ -97,7 +97,7 @@ fn hand_over(
         number: 0,
         total: least as usize,
         parts,
-        gaps: read.count,
+        gaps: read.gaps,
     }
 }
 

@@ -3,6 +3,7 @@ use mathlib.Core.Path.{_≡_}
 use mathlib.Core.List.{List, [], _∷_}
 use mathlib.Core.Logic.{_⊎_}
 use Prim.Native.Nat.{ℕ, _+_, _≤_, _<_}
+use lib.ListN.{getD}
 use Rattle.tilings.specs.Tilings.{Board, Part, gaps, Given, Least}
 use Rattle.tilings.specs.Work.{Reaches, Ends, Tiled, decode, decoded}
 
@@ -36,3 +37,7 @@ pub record ReadOut (B : Board) (g parts count : ℕ) (codes : List ℕ) : Type 0
   pub short : parts ≤ B .size
   pub given : Given B 0 g (decoded parts codes)
   pub gapped : gaps (decoded parts codes) ≡ count
+
+-- The entries from k on stay.
+abbrev pub Past : ℕ → List ℕ → List ℕ → Type 0
+Past k before after = (j : ℕ) → k ≤ j → getD after j 0 ≡ getD before j 0

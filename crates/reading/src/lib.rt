@@ -7,7 +7,7 @@ ghost use lib.ListN.{length, getD};
 ghost use Rattle.terms.specs.Tells.{Tells};
 ghost use Rattle.tilings.specs.Work.{boardBy, Reaches, Tiled};
 ghost use Rattle.table.specs.Work.{Known};
-ghost use Rattle.reading.specs.Work.{TopReach, Stops, FirstStop, Leads, ReadOut};
+ghost use Rattle.reading.specs.Work.{TopReach, Stops, FirstStop, Leads, ReadOut, Past};
 
 // Whether a piece of len letters from i reaches the total v.
 fn reaches(
@@ -114,6 +114,7 @@ fn gap_length(
         }
         len += 1;
     }
+    // Never reached, since some gap may stop.
     0
 }
 
@@ -149,6 +150,7 @@ fn next_part(
             left: q,
         };
     }
+    // Never taken, since a tiling without gaps begins with a piece: it shows that q - 1 is a number.
     if q == 0 {
         return Next {
             code: 0,
@@ -164,12 +166,13 @@ fn next_part(
     }
 }
 
+// How many parts, and how many of them are gaps.
 pub struct Tally {
     pub parts: usize,
-    pub count: usize,
+    pub gaps: usize,
 }
 
-// The tiling given, as numbers of parts.
+// The tiling given, as numbers of parts; later entries stay.
 pub fn read_parts(
     lens: &[u16],
     n: usize,
@@ -182,7 +185,7 @@ pub fn read_parts(
     requires { ⌜ (n ≤ 1000) × (g ≤ 15) × (2 * n ≤ length (now lens) + 1) × (1 ≤ m) × (n ≤ length (now codes)) ⌝ }
     requires { ⌜ Known (boardBy (now lens) n kind m) g 0 (now t) ⌝ }
     requires { ⌜ Tiled (boardBy (now lens) n kind m) 0 g ⌝ }
-    ensures { λ r. ⌜ ReadOut (boardBy (now (lens .entry)) n kind m) g (r .parts) (r .count) (now (codes .exit)) ⌝ }
+    ensures { λ r. ⌜ ReadOut (boardBy (now (lens .entry)) n kind m) g (r .parts) (r .gaps) (now (codes .exit)) × Past (r .parts) (now (codes .entry)) (now (codes .exit)) ⌝ }
 {
     let mut i = 0;
     let mut q = g;
@@ -196,6 +199,6 @@ pub fn read_parts(
     }
     Tally {
         parts: k,
-        count: g - q,
+        gaps: g - q,
     }
 }

@@ -33,5 +33,6 @@ module _ {g i q : ℕ} {row gaps before after : List ℕ} (s : Storing g i row g
       record {
         long = s .filled .long;
         at = λ p k. let d : i * (g + 1) + p - i * (g + 1) ≡ p = omega arith in rw d at (s .filled .held (i * (g + 1) + p) (omega arith) (omega arith));
+        under = s .filled .under;
         stay = λ k l. s .filled .past k (omega arith);
       }

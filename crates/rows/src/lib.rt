@@ -4,19 +4,21 @@ ghost use lib.ListN.{length};
 ghost use Rattle.tilings.specs.Work.{Lesser, Onward};
 ghost use Rattle.rows.specs.Rows.{Cleared, Lowered, Moved, Stored};
 
+// The lesser of two totals; 65535, none, is the greatest.
 fn lesser(a: u16, b: u16) -> u16
     ensures { λ r. ⌜ Lesser a b r ⌝ }
 {
     if a < b { a } else { b }
 }
 
+// One letter more in a gap, where there is a tiling.
 fn onward(a: u16) -> u16
     ensures { λ r. ⌜ Onward a r ⌝ }
 {
     if a < 65535 { a + 1 } else { 65535 }
 }
 
-// Lowers the first g + 1 numbers of the row to those of the table from `from` on: one pass that can be vectorised.
+// Lowers the first g + 1 numbers of the row to those of the table from `from` on.
 pub fn lower(row: &mut [u16], g: usize, t: &[u16], from: usize)
     requires { ⌜ (g ≤ 15) × (g < length (now row)) × (from ≤ 16016) × (from + g < length (now t)) ⌝ }
     ensures { λ _. ⌜ Lowered g (now (row .entry)) (now (t .entry)) from (now (row .exit)) ⌝ }

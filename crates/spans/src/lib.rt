@@ -22,7 +22,7 @@ fn centre_count(n: usize) -> usize
     if n == 0 { 0 } else { 2 * n - 1 }
 }
 
-// The maximal lengths of all centres, for a string and a map that no refusal holds; later entries stay.
+// The maximal lengths of all centres, for a string and a map that meet no refusal; later entries stay.
 pub fn fill_lengths(s: &[u8], map: &[u8], d: usize, out: &mut [u16])
     requires { ⌜ SoundText (text (now s) (now map)) ⌝ }
     requires { ⌜ (d ≤ 15) × (centres (length (now s)) ≤ length (now out)) ⌝ }

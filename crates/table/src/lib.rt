@@ -105,6 +105,7 @@ pub fn fill_table(lens: &[u16], n: usize, kind: usize, m: usize, g: usize, t: &m
     requires { ⌜ (n ≤ 1000) × (g ≤ 15) × (2 * n ≤ length (now lens) + 1) × (1 ≤ m) × (m ≤ 1000) × (entries n g ≤ length (now t)) ⌝ }
     ensures { λ _. ⌜ Table (boardBy (now (lens .entry)) n kind m) g (now (t .entry)) (now (t .exit)) ⌝ }
 {
+    // Behind the last letter nothing is left to tile: the total is 0 whatever the gaps, and no tiling begins with one.
     let mut row = [0u16; 16];
     let mut gaps = [65535u16; 16];
     store_row(&row, &gaps, g, n, t);

@@ -150,15 +150,7 @@ module _ (B : Board) (i q : ℕ) where
       split (piece L ∷ ps) x = inl (x, tt)
       split (gap L ∷ ps) x = inr (x, tt)
 
--- No gap is permitted, or there is no letter for one.
-pub gaps-zero : (B : Board) (i : ℕ) → Best (Gaps B i 0) 65535
-gaps-zero B i = best-none (Gaps B i 0) h
-  where
-    h : (ps : List Part) → Gaps B i 0 ps → ⊥
-    h [] p = p .1
-    h (piece L ∷ ps) p = p .1
-    h (gap L ∷ ps) p = let k : suc (gaps ps) ≤ 0 = p .0 .few in omega arith
-
+-- Past the last letter there is none for a gap.
 pub gaps-end : (B : Board) (q : ℕ) → Best (Gaps B (B .size) q) 65535
 gaps-end B q = best-none (Gaps B (B .size) q) h
   where

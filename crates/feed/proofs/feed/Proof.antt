@@ -3,7 +3,7 @@ use native.Mathlib.Omega.{arith}
 use lib.ListN.{drop, length-drop}
 use borrow.Author.Needs.{needs}
 use Rattle.feed.proofs.Ends.{within}
-use Rattle.feed.proofs.Keeping.{line-ends, piece-ends}
+use Rattle.feed.proofs.Keeping.{line-put, line-ends, piece-ends}
 use Rattle.feed.proofs.feed.Statement.{statement}
 use Rattle.feed.proofs.feed.Tie as tie
 
@@ -33,7 +33,8 @@ same-length c = search needs
 returns : tie.Need-returns
 returns c =
     let b = c .before .before .before in
-    line-ends (b .before .before .before .end-of .ensures) (b .put-bytes .ensures) (c .if1 .taken)
+    let e = b .before .before .before .end-of .ensures in
+    (line-ends e (b .put-bytes .ensures) (c .if1 .taken), line-put _ _ e (b .put-bytes .ensures))
 
 same-length-2 : tie.Need-same-length-2
 same-length-2 c = search needs
@@ -41,7 +42,8 @@ same-length-2 c = search needs
 returns-2 : tie.Need-returns-2
 returns-2 c =
     let b = c .before .before .before in
-    piece-ends (b .before .before .before .end-of .ensures) (b .put-bytes .ensures) (c .if1 .left)
+    let e = b .before .before .before .end-of .ensures in
+    (piece-ends e (b .put-bytes .ensures) (c .if1 .left), line-put _ _ e (b .put-bytes .ensures))
 
 pub feed-spec : {M : Type 1} → statement M
 feed-spec =

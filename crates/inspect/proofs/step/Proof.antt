@@ -15,7 +15,7 @@ part-answer-start : tie.Need-part-answer-start
 part-answer-start c = search needs
 
 part-answer-end : tie.Need-part-answer-end
-part-answer-end c = let a = c .before .before .before .before .before .before .before .before .before .before .before .args in let h = kept-in (a .bytes .now) (a .at) (a .piece .now) (a .from) _ _ (c .before .before .before .before .feed .ensures) (omega arith) in omega arith
+part-answer-end c = let a = c .before .before .before .before .before .before .before .before .before .before .before .args in let h = kept-in (a .bytes .now) (a .at) (a .piece .now) (a .from) _ _ (c .before .before .before .before .feed .ensures .0) (omega arith) in omega arith
 
 answer-requires : tie.Need-answer-requires
 answer-requires c κs = search needs
@@ -33,13 +33,13 @@ same-length-4 : tie.Need-same-length-4
 same-length-4 c = search needs
 
 returns : tie.Need-returns
-returns c = let a = c .before .before .before .before .before .before .before .before .before .before .before .before .before .before .before .before .before .before .before .before .before .before .args in let g = goes-on (a .bytes .now) (a .at) (a .piece .now) (a .from) _ _ (c .before .before .before .before .before .before .before .before .before .before .before .before .before .before .before .feed .ensures) (omega arith) (omega arith) in record { kept = omega arith; on = g .0; inside = g .1; written = c .before .before .before .before .before .before .answer .ensures }
+returns c = let a = c .before .before .before .before .before .before .before .before .before .before .before .before .before .before .before .before .before .before .before .before .before .before .args in let g = goes-on (a .bytes .now) (a .at) (a .piece .now) (a .from) _ _ (c .before .before .before .before .before .before .before .before .before .before .before .before .before .before .before .feed .ensures .0) (omega arith) (omega arith) in record { kept = omega arith; on = g .0; inside = g .1; written = c .before .before .before .before .before .before .answer .ensures }
 
 same-length-5 : tie.Need-same-length-5
 same-length-5 c = search needs
 
 returns-2 : tie.Need-returns-2
-returns-2 c = let a = c .before .before .before .before .before .before .before .before .before .before .args in let h = kept-in (a .bytes .now) (a .at) (a .piece .now) (a .from) _ _ (c .before .before .before .feed .ensures) (omega arith) in let g = goes-on (a .bytes .now) (a .at) (a .piece .now) (a .from) _ _ (c .before .before .before .feed .ensures) (omega arith) (omega arith) in record { kept = omega arith; on = g .0; inside = g .1; written = omega arith }
+returns-2 c = let a = c .before .before .before .before .before .before .before .before .before .before .args in let h = kept-in (a .bytes .now) (a .at) (a .piece .now) (a .from) _ _ (c .before .before .before .feed .ensures .0) (omega arith) in let g = goes-on (a .bytes .now) (a .at) (a .piece .now) (a .from) _ _ (c .before .before .before .feed .ensures .0) (omega arith) (omega arith) in record { kept = omega arith; on = g .0; inside = g .1; written = omega arith }
 
 pub step-spec : {M : Type 1} → statement M
 step-spec =

@@ -34,7 +34,7 @@ same-length : tie.Need-same-length Inv-loop μ-loop
 same-length c = c .before .loop .inv .1 .long
 
 returns : tie.Need-returns Inv-loop μ-loop
-returns c = record { long = c .before .loop .inv .1 .long; at = λ q h. c .before .loop .inv .1 .held q (omega arith) (omega arith) }
+returns c = record { long = c .before .loop .inv .1 .long; at = λ q h. c .before .loop .inv .1 .held q (omega arith) (omega arith); stay = λ k h. c .before .loop .inv .1 .past k (omega arith) }
 
 pub clear-spec : {M : Type 1} → statement M
 clear-spec =

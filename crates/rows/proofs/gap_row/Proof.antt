@@ -60,7 +60,7 @@ same-length : tie.Need-same-length Inv-loop μ-loop
 same-length c = c .before .loop .inv .1 .long
 
 returns : tie.Need-returns Inv-loop μ-loop
-returns c = record { long = c .before .loop .inv .1 .long; none = c .before .loop .inv .1 .under 0 (omega arith); at = λ q h. let e : c .before .before .before .before .args .from + (q + 1) - 1 ≡ c .before .before .before .before .args .from + q = omega arith in rw e at (c .before .loop .inv .1 .held (q + 1) (omega arith) (omega arith)) }
+returns c = record { long = c .before .loop .inv .1 .long; none = c .before .loop .inv .1 .under 0 (omega arith); at = λ q h. let e : c .before .before .before .before .args .from + (q + 1) - 1 ≡ c .before .before .before .before .args .from + q = omega arith in rw e at (c .before .loop .inv .1 .held (q + 1) (omega arith) (omega arith)); stay = λ k h. c .before .loop .inv .1 .past k (omega arith) }
 
 pub gap-row-spec : {M : Type 1} → statement M
 gap-row-spec =

@@ -1,5 +1,6 @@
 -- `look` meets its contract: a piece lowers the row, and a centre without one is dropped. Assumes nothing.
 use Prim.Native.Nat.{_+_, _-_}
+use Rattle.tilings.specs.Work.{PieceBy}
 use Rattle.terms.proofs.Told.{told-yes, told-no}
 use Rattle.table.proofs.Index.{index-small, known-lt}
 use Rattle.table.proofs.Rows.{row-skip, row-more}
@@ -37,7 +38,12 @@ same-length : tie.Need-same-length
 same-length c = search needs
 
 returns : tie.Need-returns
-returns c = let l = c .before .before .before .before .before .before .before .before .before .before .pre .1 .1 .0 .0 .low (omega arith) in (looked-kept (omega arith) (c .before .before .before .before .before .before .before .before .before .before .pre .1 .1 .0 .1), row-more (c .before .before .before .before .before .before .before .before .before .before .pre .1 .1 .1 .1) (c .before .before .before .before .before .before .before .before .before .before .pre .1 .0) (omega arith) (omega arith) (told-yes (c .before .before .before .before .before .is-piece .result) _ (c .before .before .before .before .before .is-piece .ensures) (c .before .before .before .before .if1 .taken)) (c .before .before .lower .ensures))
+returns c =
+    let a = c .before .before .before .before .before .before .before .before .before .before .args in
+    let pre = c .before .before .before .before .before .before .before .before .before .before .pre in
+    let l = pre .1 .1 .0 .0 .low (omega arith) in
+    let piece : PieceBy (a .lens .now) (a .n) (a .kind) (a .m) (a .i) (a .c + 1 - (a .i + a .i)) = told-yes (c .before .before .before .before .before .is-piece .result) (PieceBy (a .lens .now) (a .n) (a .kind) (a .m) (a .i) (a .c + 1 - (a .i + a .i))) (c .before .before .before .before .before .is-piece .ensures) (c .before .before .before .before .if1 .taken) in
+    (looked-kept (omega arith) (pre .1 .1 .0 .1), row-more (pre .1 .1 .1 .1) (pre .1 .0) (omega arith) (omega arith) piece (c .before .before .lower .ensures))
 
 mul-next : tie.Need-mul-next
 mul-next c = search needs
