@@ -16,7 +16,7 @@ use Rattle.records.specs.Records.{recordSize}
 use Rattle.questions.specs.Tiling.{tableFaults, handing, TilingReply}
 use Rattle.questions.specs.declared.Answer.{Answer}
 use Rattle.questions.proofs.Handed.{handing-short, handing-whole}
-use Rattle.history.specs.Demand3.{OpensAsAsked}
+use Rattle.history.specs.Openings.{OpensAsAsked}
 use Rattle.history.proofs.Openings.{number-of-opening}
 
 module _ (x : Text) (l : Limits) (t t′ room room′ : List ℕ) (r : Answer) (p : TilingReply x l t t′ room room′ r) where

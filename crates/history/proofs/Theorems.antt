@@ -22,8 +22,9 @@ use Rattle.sheet.specs.declared.Sheet.{Sheet}
 use Rattle.sheet.proofs.Within.{bounds}
 use Rattle.sheet.proofs.Replying.{answer-no, applied-accepted, changed-accepted}
 use Rattle.history.specs.History.{Content, History, Request, letter, limits, takeBack, putAgain, made, start, accept, decide, reckon}
-use Rattle.history.specs.Runs.{contentOf, standingOf, takenOf, perform, Call, request, ask, Answered, said, shown, Run, after, Faithful}
-use Rattle.history.specs.Demand3.{Demand3, BlankToo, RefusedStays, BackAndAgain, ChangeAndBack, OpensAnew}
+use Rattle.history.specs.Runs.{contentOf, standingOf, takenOf, perform, Exchange, requested, asked, Run, after, Faithful}
+use Rattle.history.specs.Demand3.{Came, Demand3, RefusedStays, BackAndAgain, ChangeAndBack}
+use Rattle.history.specs.Openings.{BlankToo, OpensAnew}
 use Rattle.history.proofs.Lists.{standing-length}
 use Rattle.history.proofs.Padding.{content-is}
 use Rattle.history.proofs.Invariant.{historyOf, Invariant, invariant-same}
@@ -32,36 +33,31 @@ use Rattle.history.proofs.Steps.{counting, back-refused, back-made, aga
 use Rattle.history.proofs.Openings.{opens, number-of-opening, opened-invariant, fresh-reply, blank-passes}
 
 -- After a run of calls: each answer is the history's, and the history is the one read off the sheet.
-pub record Ends (o : Content) (h : History) (cs : List Call) (rest : List Answered) (s : Sheet) : Type 0 where
-  pub faithful : Faithful h cs rest
-  pub history : after h cs ≡ historyOf o s
+pub record Ends (o : Content) (h : History) (xs : List Exchange) (s : Sheet) : Type 0 where
+  pub faithful : Faithful h xs
+  pub history : after h xs ≡ historyOf o s
   pub invariant : Invariant o s
 
-run : (o : Content) (s : Sheet) → Invariant o s → (cs : List Call) (rest : List Answered) (s′ : Sheet) → Run s cs rest s′ → Ends o (historyOf o s) cs rest s′
-run o s S [] [] s′ r = rw r (record { faithful = tt; history = refl; invariant = S })
-run o s S [] (a ∷ rest) s′ r = absurd r
-run o s S (c ∷ cs) [] s′ r = absurd r
-run o s S (request q ∷ cs) (said w ∷ rest) s′ r =
+runs : (o : Content) (s : Sheet) → Invariant o s → (xs : List Exchange) (s′ : Sheet) → Run s xs s′ → Ends o (historyOf o s) xs s′
+runs o s S [] s′ r = rw r (record { faithful = tt; history = refl; invariant = S })
+runs o s S (requested q w ∷ xs) s′ r =
     let A = step S q in
-    let more = run o (perform s q .sheet) (A .0) cs rest s′ (r .1) in
+    let more = runs o (perform s q .sheet) (A .0) xs s′ (r .1) in
     record { faithful = rw (A .1) (r .0, more .faithful); history = rw (A .1) (more .history); invariant = more .invariant }
-run o s S (request q ∷ cs) (shown t room a ∷ rest) s′ r = absurd r
-run o s S (ask t room ∷ cs) (said w ∷ rest) s′ r = absurd r
-run o s S (ask t room ∷ cs) (shown t′ room′ a ∷ rest) s′ r =
-    let more = run o s S cs rest s′ (r .1) in
+runs o s S (asked t room t′ room′ a ∷ xs) s′ r =
+    let more = runs o s S xs s′ (r .1) in
     record { faithful = (fresh-reply S t t′ room room′ a (r .0), more .faithful); history = more .history; invariant = more .invariant }
 
 -- A run from an accepted opening.
-came : (x : Text) (l : Limits) → numberOf (openCall x l .said) ≡ 0 → (cs : List Call) (rest : List Answered) (s : Sheet)
-    → Run (openCall x l .sheet) cs rest s → Ends (record { text = x; limits = l }) (start x l) cs rest s
+came-ends : (x : Text) (l : Limits) (xs : List Exchange) (s : Sheet) → Came x l xs s → Ends (record { text = x; limits = l }) (start x l) xs s
 unfolding opened
-came x l z cs rest s r =
-    let e = sym (number-of-opening x l) ∙ z in
-    run (record { text = x; limits = l }) (opened x l) (opened-invariant x l e) cs rest s (rw (opens x l e) at r)
+came-ends x l xs s c =
+    let e = sym (number-of-opening x l) ∙ c .accepted in
+    runs (record { text = x; limits = l }) (opened x l) (opened-invariant x l e) xs s (rw (opens x l e) at (c .run))
 
 pub demand-3 : Demand3
-demand-3 x l z cs rest s r =
-    let E = came x l z cs rest s r in
+demand-3 x l xs s c =
+    let E = came-ends x l xs s c in
     let S = E .invariant in
     let w : s .standing + s .taken ≤ 64 = bounds s (S .bounds) .few in
     let k : length (standingOf s) ≡ s .standing = standing-length (s .kept) (s .standing) in (
@@ -117,8 +113,8 @@ restored o s (suc j) tk S z =
     rw (b, g) (applied-accepted s1 (doneOf c) (suc j) tk, invariant-same o _ was G S refl refl refl)
 
 pub back-and-again : BackAndAgain
-back-and-again x l z cs rest s r =
-    restored (record { text = x; limits = l }) s (s .standing) (s .taken) (came x l z cs rest s r .invariant)
+back-and-again x l xs s c =
+    restored (record { text = x; limits = l }) s (s .standing) (s .taken) (came-ends x l xs s c .invariant)
 
 -- A change and take-back, for whatever faults the change has.
 module _ {o : Content} {s : Sheet} (S : Invariant o s) where
@@ -135,7 +131,7 @@ module _ {o : Content} {s : Sheet} (S : Invariant o s) where
       (content-is (B .0 .holds) ∙ ap (made o) b ∙ sym (content-is (S .holds)), b)
 
 pub change-and-back : ChangeAndBack
-change-and-back x l z cs rest s r (letter p b) c = undone (came x l z cs rest s r .invariant) (letter p b) (EditLetter p b) _ refl
-change-and-back x l z cs rest s r (limits m) c = undone (came x l z cs rest s r .invariant) (limits m) (EditLimits m) _ refl
-change-and-back x l z cs rest s r takeBack c = absurd c
-change-and-back x l z cs rest s r putAgain c = absurd c
+change-and-back x l xs s c (letter p b) k = undone (came-ends x l xs s c .invariant) (letter p b) (EditLetter p b) _ refl
+change-and-back x l xs s c (limits m) k = undone (came-ends x l xs s c .invariant) (limits m) (EditLimits m) _ refl
+change-and-back x l xs s c takeBack k = absurd k
+change-and-back x l xs s c putAgain k = absurd k

@@ -2,4 +2,5 @@
 pub mod History
 pub mod Runs
 pub mod Demand3
+pub mod Openings
 pub mod Example

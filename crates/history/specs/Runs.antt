@@ -41,30 +41,22 @@ perform s (limits l) = limitsCall s l
 perform s takeBack = takeBackCall s
 perform s putAgain = putAgainCall s
 
--- A call: a request, or a tiling question with table and room as lent. An answer: what is said, or table and room as left and the reply.
-pub data Call : Type 0 where
-  request : Request → Call
-  ask : List ℕ → List ℕ → Call
-
-pub data Answered : Type 0 where
-  said : Said → Answered
-  shown : List ℕ → List ℕ → Answer → Answered
+-- A call with its answer: a request with what is said; a tiling question with table and room as lent, table and room as left, and the reply.
+pub data Exchange : Type 0 where
+  requested : Request → Said → Exchange
+  asked : List ℕ → List ℕ → List ℕ → List ℕ → Answer → Exchange
 
 -- A run of calls on the sheet s, with what each was answered, ends with the sheet s′.
-abbrev pub Run : Sheet → List Call → List Answered → Sheet → Type 0
-Run s [] [] s′ = s′ ≡ s
-Run s [] (a ∷ rest) s′ = ⊥
-Run s (c ∷ cs) [] s′ = ⊥
-Run s (request q ∷ cs) (said w ∷ rest) s′ = (w ≡ perform s q .said) × Run (perform s q .sheet) cs rest s′
-Run s (request q ∷ cs) (shown t room r ∷ rest) s′ = ⊥
-Run s (ask t room ∷ cs) (said w ∷ rest) s′ = ⊥
-Run s (ask t room ∷ cs) (shown t′ room′ r ∷ rest) s′ = SheetReply s t t′ room room′ r × Run s cs rest s′
+abbrev pub Run : Sheet → List Exchange → Sheet → Type 0
+Run s [] s′ = s′ ≡ s
+Run s (requested q w ∷ xs) s′ = (w ≡ perform s q .said) × Run (perform s q .sheet) xs s′
+Run s (asked t room t′ room′ r ∷ xs) s′ = SheetReply s t t′ room room′ r × Run s xs s′
 
--- The history after a run of calls: only the calls count.
-abbrev pub after : History → List Call → History
+-- The history after a run of calls: only what was asked counts.
+abbrev pub after : History → List Exchange → History
 after h [] = h
-after h (request q ∷ cs) = after (reckon h q .0) cs
-after h (ask t room ∷ cs) = after h cs
+after h (requested q w ∷ xs) = after (reckon h q .0) xs
+after h (asked t room t′ room′ r ∷ xs) = after h xs
 
 -- A question's reply is demand 2's for that content; and it is the one that a sheet newly opened with that content gives, lent the same rooms.
 pub record FreshReply (c : Content) (t t′ room room′ : List ℕ) (r : Answer) : Type 0 where
@@ -75,11 +67,7 @@ pub record FreshReply (c : Content) (t t′ room room′ : List ℕ) (r : Answer
       → SheetReply (openCall (c .text) (c .limits) .sheet) t t″ room room″ r″ → (t″ ≡ t′) × (room″ ≡ room′) × (r″ ≡ r)
 
 -- Every answer is the one that the history gives.
-abbrev pub Faithful : History → List Call → List Answered → Type 0
-Faithful h [] [] = Unit {0}
-Faithful h [] (a ∷ rest) = ⊥
-Faithful h (c ∷ cs) [] = ⊥
-Faithful h (request q ∷ cs) (said w ∷ rest) = (w ≡ reckon h q .1) × Faithful (reckon h q .0) cs rest
-Faithful h (request q ∷ cs) (shown t room r ∷ rest) = ⊥
-Faithful h (ask t room ∷ cs) (said w ∷ rest) = ⊥
-Faithful h (ask t room ∷ cs) (shown t′ room′ r ∷ rest) = FreshReply (current h) t t′ room room′ r × Faithful h cs rest
+abbrev pub Faithful : History → List Exchange → Type 0
+Faithful h [] = Unit {0}
+Faithful h (requested q w ∷ xs) = (w ≡ reckon h q .1) × Faithful (reckon h q .0) xs
+Faithful h (asked t room t′ room′ r ∷ xs) = FreshReply (current h) t t′ room room′ r × Faithful h xs
