@@ -1,4 +1,4 @@
--- What a line that is read asks for: places in the line, and slices no longer than four digits can name.
+-- What a line that is read asks for: places in the line, and slices no longer than four digits can name. Working notions: no promise to a caller rests on reading them.
 use mathlib.Core.List.{List}
 use Prim.Native.Nat.{ℕ, _+_, _≤_, _<_}
 use lib.ListN.{length}

@@ -1,4 +1,4 @@
--- What the program lends to a call: the map that a line names, and slices set to what they hold before.
+-- What the program lends to a call: the map that a line names, and slices set to what they hold before. Working notions: no promise to a caller rests on reading them.
 use mathlib.Core.List.{List}
 use Prim.Native.Nat.{ℕ, _+_, _%_}
 use lib.ListN.{length, replicate}

@@ -1,4 +1,4 @@
--- What is printed of a call: its numbers, and every entry and byte of the lent slices.
+-- What is printed of a call: its numbers, and every entry and byte of the lent slices. Working notions: no promise to a caller rests on reading them.
 use mathlib.Core.List.{List, [], _∷_, _++_}
 use Prim.Native.Nat.{ℕ}
 use lib.ListN.{length}

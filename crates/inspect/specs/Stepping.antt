@@ -1,4 +1,4 @@
--- A step through a piece of the input: it goes on in the piece, and stays within the buffers.
+-- A step through a piece of the input: it goes on in the piece, and stays within the buffers. Working notions: no promise to a caller rests on reading them.
 use Prim.Native.Nat.{ℕ, _≤_, _<_}
 use Rattle.inspect.specs.declared.Stepped.{Stepped}
 

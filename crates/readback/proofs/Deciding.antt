@@ -8,6 +8,7 @@ use native.Mathlib.Omega.{arith}
 use borrow.Author.Tests.{eq-eqb, eqb-true, leb-true, ltb-true}
 use lib.Dec.{leb, ltb, eqb}
 use lib.ListN.{length}
+use Rattle.terms.proofs.Passed.{or-either}
 use Rattle.terms.specs.Maps.{everyBelow}
 use Rattle.terms.specs.Tells.{Tells}
 use Rattle.terms.proofs.Below.{and-left, and-right, below-at}
@@ -73,10 +74,6 @@ same?-is (piece L) (gap M) t = wrong t
 same?-is (gap L) (piece M) t = wrong t
 same?-is (gap L) (gap M) t = ap gap (eqb-true L M t)
 
-either-is : (a b : Bool) → (a || b) ≡ true → (a ≡ true) ⊎ (b ≡ true)
-either-is true b t = inl refl
-either-is false b t = inr t
-
 upfront?-is : (ps qs : List Part) → upfront? ps qs ≡ true → (qs ≡ ps) ⊎ Before ps qs
 unfolding upfront?
 upfront?-is [] [] t = inl refl
@@ -88,7 +85,7 @@ upfront?-is (p ∷ ps) (q ∷ qs) t =
     (λ (h : (same? p q && upfront? ps qs) ≡ true).
     let e : p ≡ q = same?-is p q (and-left _ _ h) in
     ⊎-elim (λ (k : qs ≡ ps). inl (cc)) (λ (k : Before ps qs). inr (inr (e, k))) (upfront?-is ps qs (and-right (same? p q) (upfront? ps qs) h)))
-    (either-is (sooner? p q) (same? p q && upfront? ps qs) t)
+    (or-either (sooner? p q) (same? p q && upfront? ps qs) t)
 
 -- ps is no worse than qs
 unfoldable pub better? : List Part → List Part → Bool

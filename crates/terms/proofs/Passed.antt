@@ -30,7 +30,7 @@ pub not-off : (b : Bool) → not b ≡ false → b ≡ true
 not-off true e = refl
 not-off false e = let z : true ≡ false = e in cc
 
-or-either : (a b : Bool) → (a || b) ≡ true → (a ≡ true) ⊎ (b ≡ true)
+pub or-either : (a b : Bool) → (a || b) ≡ true → (a ≡ true) ⊎ (b ≡ true)
 or-either true b e = inl refl
 or-either false b e = inr e
 

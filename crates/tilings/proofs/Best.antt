@@ -75,15 +75,15 @@ module _ (B : Board) (i q : ℕ) where
       no-one (piece L ∷ ps) p = let k : m ≤ L = h L (p .0 .tiles .0) in let j : L < m = p .1 in omega arith
       no-one (gap L ∷ ps) p = p .1
 
+  pieces-wider : (M N : ℕ) → M ≤ N → (ps : List Part) → Pieces B i q M ps → Pieces B i q N ps
+  pieces-wider M N le [] p = p
+  pieces-wider M N le (piece L ∷ ps) p = (p .0, omega arith)
+  pieces-wider M N le (gap L ∷ ps) p = p
+
   -- every piece shorter than N is shorter than M
   pub pieces-jump : (M N v : ℕ) → M ≤ N → ((L : ℕ) → B .Piece i L → L < N → L < M) → Best (Pieces B i q M) v → Best (Pieces B i q N) v
-  pieces-jump M N v le h = best-same (Pieces B i q M) (Pieces B i q N) v into back
+  pieces-jump M N v le h = best-same (Pieces B i q M) (Pieces B i q N) v (pieces-wider M N le) back
     where
-      into : (ps : List Part) → Pieces B i q M ps → Pieces B i q N ps
-      into [] p = p
-      into (piece L ∷ ps) p = (p .0, omega arith)
-      into (gap L ∷ ps) p = p
-
       back : (ps : List Part) → Pieces B i q N ps → Pieces B i q M ps
       back [] p = p
       back (piece L ∷ ps) p = (p .0, h L (p .0 .tiles .0) (p .1))
@@ -91,7 +91,7 @@ module _ (B : Board) (i q : ℕ) where
 
   -- one piece more, of length M, before the best of what follows it
   pub pieces-more : (M u w v : ℕ) → B .Piece i M → Best (Permitted B (i + M) q) u → Best (Pieces B i q M) w → Lesser u w v → Best (Pieces B i q (M + 1)) v
-  pieces-more M u w v pc bu bw l = best-two One (Pieces B i q M) (Pieces B i q (M + 1)) u w v one bw l one-in into split
+  pieces-more M u w v pc bu bw l = best-two One (Pieces B i q M) (Pieces B i q (M + 1)) u w v one bw l one-in (pieces-wider M (M + 1) (omega arith)) split
     where
       One : List Part → Type 0
       One ps = (rest : List Part) × Permitted B (i + M) q rest × (ps ≡ piece M ∷ rest)
@@ -107,11 +107,6 @@ module _ (B : Board) (i q : ℕ) where
       one-in ps p =
           subst (λ (z : List Part). Pieces B i q (M + 1) z) (sym (p .2))
           (record { tiles = (pc, p .1 .tiles); few = p .1 .few }, omega arith)
-
-      into : (ps : List Part) → Pieces B i q M ps → Pieces B i q (M + 1) ps
-      into [] p = p
-      into (piece L ∷ ps) p = (p .0, omega arith)
-      into (gap L ∷ ps) p = p
 
       split : (ps : List Part) → Pieces B i q (M + 1) ps → One ps ⊎ Pieces B i q M ps
       split [] p = absurd (p .1)
