@@ -1,7 +1,7 @@
 -- Pieces have letters, lie within the string and have few errors; the laws for a reader hold on every board of a string. Assumes nothing.
 use mathlib.Core.Path.{_≡_}
 use mathlib.Core.Logic.{_⊎_, ⊎-elim}
-use Prim.Native.Nat.{ℕ, _+_, _≤_, _<_}
+use Prim.Native.Nat.{ℕ, _+_, _≤_}
 use native.Mathlib.Omega.{arith}
 use Rattle.terms.specs.Texts.{Text, size}
 use Rattle.terms.specs.declared.limits.Limits.{Limits}

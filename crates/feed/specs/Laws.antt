@@ -5,7 +5,7 @@ use mathlib.Core.List.{List, [], _∷_, _++_}
 use Prim.Native.Nat.{ℕ}
 use lib.ListN.{drop}
 use Rattle.feed.specs.Lines.{wholeLines, lastLine}
-use Rattle.feed.specs.Feeding.{upToEnd, ends, Feeds}
+use Rattle.feed.specs.Feeding.{upToEnd, Feeds}
 use Rattle.feed.specs.declared.Fed.{Fed}
 
 -- However an input is cut in two, its lines are the same.

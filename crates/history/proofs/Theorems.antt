@@ -14,7 +14,7 @@ use Rattle.changes.specs.declared.Change.{Change}
 use Rattle.changes.specs.declared.Edit.{Edit}
 use Rattle.changes.specs.declared.Edit.the-variants.{Letter as EditLetter, Limits as EditLimits}
 use Rattle.sheet.specs.Bounds.{keptAt}
-use Rattle.sheet.specs.Calls.{numberOf, refusing, answered, applied, takeBackCall, putAgainCall, opened, blankSheet, openCall}
+use Rattle.sheet.specs.Calls.{numberOf, refusing, answered, applied, takeBackCall, putAgainCall, opened, blankSheet}
 use Rattle.sheet.specs.declared.Reply.{Reply}
 use Rattle.sheet.specs.declared.Said.{Said}
 use Rattle.sheet.specs.declared.Said.the-variants.{Opened}

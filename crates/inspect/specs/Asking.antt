@@ -1,6 +1,6 @@
 -- What a line that is read asks for: places in the line, and slices no longer than four digits can name. Working notions: no promise to a caller rests on reading them.
 use mathlib.Core.List.{List}
-use Prim.Native.Nat.{ℕ, _+_, _≤_, _<_}
+use Prim.Native.Nat.{ℕ, _+_, _≤_}
 use lib.ListN.{length}
 use Rattle.inspect.specs.declared.asks.Ask.{Ask}
 use Rattle.inspect.specs.declared.asks.Ask.the-variants.{Tiling, Centres, Longest, Longer, Unknown}

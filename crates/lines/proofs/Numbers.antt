@@ -16,7 +16,7 @@ use Rattle.lines.specs.declared.Four.the-variants.{Are, Missing}
 use Rattle.lines.specs.Lines.{limitsNumbers, Short}
 use Rattle.lines.specs.Work.{digitAt, stands, numberAt, numberAfter, withNumber, fourAfter}
 use Rattle.lines.proofs.Standing.{by-test, stands-drop, stands-yes}
-use Rattle.lines.proofs.Numerals.{Spelt, Numbered, number-sound, number-complete, on}
+use Rattle.lines.proofs.Numerals.{Numbered, number-sound, number-complete, on}
 
 -- a byte below the digits is none
 pub no-digit : (b : ℕ) (ys : List ℕ) → b < 48 → digitAt (b ∷ ys) 0 ≡ 10

@@ -1,12 +1,12 @@
 -- A line is read as what it asks, and no two readings of a line differ. Assumes nothing.
-use mathlib.Core.Path.{_≡_, refl, sym, ap, ap₂, _∙_, subst}
+use mathlib.Core.Path.{_≡_, refl, sym, ap, _∙_, subst}
 use mathlib.Core.Bool.{Bool, true, false}
 use mathlib.Core.List.{List, [], _∷_, _++_, append-nil}
 use mathlib.Core.Logic.{_⊎_, inl, inr, ⊎-elim}
 use Prim.Native.Nat.{ℕ, suc, _+_, _-_, _≤_, _<_}
 use native.Mathlib.Omega.{arith}
 use borrow.Author.Tests.{leb-true, eqb-true, lt-ltb, eq-eqb, le-leb}
-use lib.Dec.{T, leb, eqb}
+use lib.Dec.{leb, eqb}
 use lib.ListN.{length, drop, drop-of-length-le, length-drop}
 use Rattle.terms.specs.declared.limits.Limits.{Limits}
 use Rattle.printing.specs.Printing.{fields}
@@ -14,11 +14,11 @@ use Rattle.lines.specs.declared.Line.{Line}
 use Rattle.lines.specs.declared.Line.the-variants.{Open, Letter, Limits as NewLimits, TakeBack, PutAgain, Question, Unknown}
 use Rattle.lines.specs.declared.Four.{Four}
 use Rattle.lines.specs.declared.Four.the-variants.{Are, Missing}
-use Rattle.lines.specs.Lines.{Asked, opening, letter, limits, takeBack, putAgain, question, limitsNumbers, mapLetter, lineText, mostBytes, Asks, Reads, OneReading}
-use Rattle.lines.specs.Work.{stands, numberAfter, withFour, fourAfter, ending, letterLine, limitsLine, stringAfter, openLine, lineOf}
+use Rattle.lines.specs.Lines.{Asked, opening, letter, limits, takeBack, putAgain, question, limitsNumbers, mapLetter, mostBytes, Asks, Reads, OneReading}
+use Rattle.lines.specs.Work.{stands, withFour, fourAfter, ending, letterLine, limitsLine, stringAfter, openLine, lineOf}
 use Rattle.lines.proofs.Standing.{by-test, stands-in, stands-drop, stands-yes, stands-no}
 use Rattle.lines.proofs.Numerals.{on}
-use Rattle.lines.proofs.Numbers.{no-digit, nothing-digit, Stand, none-stand, one-stands, Fours, going, four-sound, Found, after-complete, FoundFour, four-complete}
+use Rattle.lines.proofs.Numbers.{no-digit, nothing-digit, Stand, none-stand, one-stands, Fours, going, four-sound, after-complete, four-complete}
 
 module _ (xs : List ℕ) (short : length xs ≤ mostBytes) where
   -- a line that was understood asks what was read; of one that was not nothing is said yet

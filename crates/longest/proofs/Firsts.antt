@@ -1,13 +1,13 @@
 -- The search for the first longest exact palindrome, centre by centre. Assumes nothing.
-use mathlib.Core.Path.{_≡_, refl, sym, ap, _∙_, subst, subst₂}
+use mathlib.Core.Path.{_≡_, refl, sym, subst, subst₂}
 use mathlib.Core.List.{List}
 use mathlib.Core.Logic.{_⊎_, inl, inr, ⊎-elim}
-use Prim.Native.Nat.{ℕ, _+_, _-_, _*_, _/_, _≤_, _<_}
+use Prim.Native.Nat.{ℕ, _+_, _-_, _/_, _≤_, _<_}
 use native.Mathlib.Omega.{arith}
 use native.Mathlib.Nat.{le-antisymm}
 use lib.ListN.{length}
 use Rattle.terms.proofs.Order.{le-or-lt}
-use Rattle.terms.specs.Texts.{Text, text, size}
+use Rattle.terms.specs.Texts.{Text, text}
 use Rattle.spans.specs.Palindromes.{ExactPalindrome, DPalindrome, centre, centres, MaximalLength}
 use Rattle.longest.specs.Longest.{FirstLongest}
 use Rattle.longest.specs.Work.{Longer, LongestBelow}

@@ -6,7 +6,7 @@ use native.Mathlib.Omega.{arith}
 use denote.Ref.{RefT, now}
 use Rattle.terms.specs.Refusals.{firstFault}
 use Rattle.terms.specs.Maps.{mapFaults}
-use Rattle.terms.specs.Texts.{Text, text, tooLong, textFaults, pairFaults}
+use Rattle.terms.specs.Texts.{text, tooLong, textFaults, pairFaults}
 use Rattle.terms.specs.Passed.{SoundText}
 use Rattle.terms.proofs.Below.{or-left, or-right}
 use Rattle.terms.proofs.Passed.{passed, sound-text}

@@ -1,11 +1,9 @@
 // The first longest exact palindrome of a string.
 use spans::outward::walk;
-ghost use mathlib.Core.Path.{_≡_};
 ghost use Prim.Native.Nat.{_+_, _≤_, _<_};
 ghost use lib.ListN.{length};
 ghost use Rattle.terms.specs.Texts.{text};
 ghost use Rattle.terms.specs.Passed.{SoundText};
-ghost use Rattle.spans.specs.Palindromes.{centres, MaximalLength};
 ghost use Rattle.longest.specs.Longest.{FirstLongest, PartOf};
 ghost use Rattle.longest.specs.Work.{Longer};
 

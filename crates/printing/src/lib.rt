@@ -1,5 +1,4 @@
 // Lines printed into a lent room: a letter, numbers in decimal, a line end. A room that is too short takes what it can.
-ghost use mathlib.Core.Path.{_≡_};
 ghost use mathlib.Core.List.{[], _∷_};
 ghost use Prim.Native.Nat.{_≤_};
 ghost use lib.ListN.{length};

@@ -1,13 +1,10 @@
 -- What is handed over of a tiling, where the room is short and where it is not. Assumes nothing.
-use mathlib.Core.Path.{_≡_, refl, ap}
-use mathlib.Core.Bool.{Bool, true, false, cond}
+use mathlib.Core.Path.{_≡_, ap}
+use mathlib.Core.Bool.{Bool, cond}
 use mathlib.Core.List.{List, _++_}
-use mathlib.Core.Logic.{_⊎_, inl, inr, ⊎-elim}
 use Prim.Native.Nat.{ℕ, _*_, _≤_, _<_}
 use borrow.Author.Tests.{lt-ltb, le-ltb}
-use lib.Dec.{ltb}
 use lib.ListN.{length, drop}
-use Rattle.terms.proofs.Order.{le-or-lt}
 use Rattle.terms.specs.Texts.{Text}
 use Rattle.tilings.specs.Tilings.{Part}
 use Rattle.records.specs.Records.{recordSize, recordsFrom}

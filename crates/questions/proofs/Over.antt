@@ -11,8 +11,7 @@ use Rattle.terms.specs.Passed.{SoundText, SoundLimits}
 use Rattle.terms.specs.declared.limits.Limits.{Limits}
 use Rattle.spans.specs.Centres.{Holds}
 use Rattle.spans.proofs.Exactness.{Bytes}
-use Rattle.tilings.specs.Tilings.{Board, Part, piece, gap, gaps, total, Tiles, Permitted, None, Given, Least, Entry, entries, Table}
-use Rattle.tilings.specs.Laws.{lengthOf}
+use Rattle.tilings.specs.Tilings.{Board, Part, piece, gap, gaps, total, Tiles, None, Given, Least, Entry, entries, Table}
 use Rattle.tilings.specs.Work.{boardBy, Tiled, decode, decoded}
 use Rattle.tilings.proofs.Covers.{gaps-fit}
 use Rattle.tilings.proofs.Heads.{given-total}
@@ -22,8 +21,8 @@ use Rattle.boards.proofs.Transfer.{Transfer, transfer}
 use Rattle.table.specs.Work.{Known}
 use Rattle.reading.specs.Work.{ReadOut}
 use Rattle.records.specs.Records.{recordSize, recordsFrom}
-use Rattle.records.specs.Work.{Fit, Writable}
-use Rattle.questions.specs.Tiling.{refusal, roomRefusal, figures, handing, HandsOver}
+use Rattle.records.specs.Work.{Writable}
+use Rattle.questions.specs.Tiling.{refusal, HandsOver}
 use Rattle.questions.specs.declared.Answer.{Answer}
 use Rattle.questions.proofs.Handed.{handing-short, handing-whole}
 

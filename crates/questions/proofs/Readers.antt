@@ -1,11 +1,9 @@
 -- The laws for a reader hold of every reply to the tiling question, and there is one reply. Assumes nothing.
 use mathlib.Core.Path.{_≡_, refl, sym, ap, _∙_}
-use mathlib.Core.Bool.{true}
-use mathlib.Core.List.{List, [], _∷_, _++_}
+use mathlib.Core.List.{List, [], _∷_}
 use mathlib.Core.Logic.{_⊎_, inl, inr, ⊎-elim}
 use Prim.Native.Nat.{ℕ, _*_, _≤_, _<_}
 use native.Mathlib.Omega.{arith}
-use lib.Dec.{ltb}
 use lib.ListN.{length}
 use Rattle.terms.proofs.Order.{le-or-lt}
 use Rattle.terms.specs.Refusals.{firstFault, OneOf}
@@ -14,7 +12,7 @@ use Rattle.terms.specs.Limits.{limitsFaults}
 use Rattle.terms.specs.Texts.{Text, size, textFaults, openingFaults}
 use Rattle.terms.specs.declared.limits.Limits.{Limits}
 use Rattle.terms.proofs.Refusals.{Numbered, numbered-append, opening-numbered, fault-listed, member, absent, one-of-append, tested-first, tested-next}
-use Rattle.tilings.specs.Tilings.{Board, Part, None, Given, entries}
+use Rattle.tilings.specs.Tilings.{Part, None, Given}
 use Rattle.boards.specs.Pieces.{board}
 use Rattle.boards.proofs.Laws.{board-laws}
 use Rattle.records.specs.Records.{recordSize}

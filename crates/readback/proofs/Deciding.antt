@@ -1,9 +1,9 @@
 -- Which tiling is given, and whether there is none, by a test that goes through all permitted tilings: for worked examples. Assumes nothing.
-use mathlib.Core.Path.{_≡_, refl, sym, ap, _∙_}
-use mathlib.Core.Bool.{Bool, true, false, not, _&&_, _||_}
+use mathlib.Core.Path.{_≡_, refl, sym, ap}
+use mathlib.Core.Bool.{Bool, true, false, _&&_, _||_}
 use mathlib.Core.List.{List, [], _∷_}
 use mathlib.Core.Logic.{_⊎_, inl, inr, ⊎-elim}
-use Prim.Native.Nat.{ℕ, zero, suc, _+_, _-_, _*_, _≤_, _<_}
+use Prim.Native.Nat.{ℕ, zero, suc, _+_, _-_, _≤_}
 use native.Mathlib.Omega.{arith}
 use borrow.Author.Tests.{eq-eqb, eqb-true, leb-true, ltb-true}
 use lib.Dec.{leb, ltb, eqb}
@@ -12,8 +12,8 @@ use Rattle.terms.proofs.Passed.{or-either}
 use Rattle.terms.specs.Maps.{everyBelow}
 use Rattle.terms.specs.Tells.{Tells}
 use Rattle.terms.proofs.Below.{and-left, and-right, below-at}
-use Rattle.terms.proofs.Told.{told-yes, told-no}
-use Rattle.tilings.specs.Tilings.{Board, Part, piece, gap, gaps, total, GapFirst, Tiles, Permitted, Sooner, Before, Given, None, Least, Entry}
+use Rattle.terms.proofs.Told.{told-yes}
+use Rattle.tilings.specs.Tilings.{Board, Part, piece, gap, gaps, total, GapFirst, Tiles, Permitted, Sooner, Before, Given, None, Entry}
 use Rattle.tilings.proofs.Covers.{parts-fit}
 
 -- b, where a holds

@@ -6,7 +6,6 @@ use Prim.Native.Nat.{ℕ, zero, suc, _+_, _-_, _/_, _≤_, _<_}
 use native.Mathlib.Omega.{arith}
 use borrow.Author.Tests.{ltb-true, ltb-false, leb-true, leb-false}
 use lib.Dec.{ltb, leb}
-use lib.ListN.{length, getD}
 use Rattle.terms.specs.Maps.{valuesFrom}
 use Rattle.terms.specs.Texts.{Text, size}
 use Rattle.terms.proofs.Supplied.{values-at}

@@ -1,12 +1,11 @@
 -- Every reply that the promises allow shows what the definitions give. Assumes nothing.
-use mathlib.Core.Path.{_≡_, refl, sym, ap, _∙_, subst}
-use mathlib.Core.List.{List, [], _∷_, _++_}
-use mathlib.Core.Logic.{_⊎_, inl, inr, ⊎-elim}
-use Prim.Native.Nat.{ℕ, zero, suc, _+_, _*_, _/_, _%_, _≤_, _<_}
+use mathlib.Core.Path.{_≡_, sym, ap, _∙_, subst}
+use mathlib.Core.List.{List, _++_}
+use mathlib.Core.Logic.{inl, inr}
+use Prim.Native.Nat.{ℕ, _+_, _*_, _/_, _%_, _≤_, _<_}
 use native.Mathlib.Omega.{arith}
 use native.Mathlib.Nat.{div-add-mod', mod-lt, div-lt-iff-lt-mul}
 use borrow.Author.Tests.{le-ltb}
-use lib.Dec.{ltb}
 use lib.ListN.{length, getD, take, drop}
 use lib.Seq.{ext-getD, getD-take, length-take-le, take-at}
 use Rattle.terms.specs.Refusals.{firstFault}
@@ -18,12 +17,12 @@ use Rattle.spans.specs.Palindromes.{centres}
 use Rattle.spans.specs.Centres.{Holds, centresFaults, CentresReply}
 use Rattle.spans.specs.declared.CentreCount.{CentreCount}
 use Rattle.spans.proofs.Walking.{longest-unique}
-use Rattle.tilings.specs.Tilings.{Board, Part, gaps, total, None, Given, Entry, entries, Table}
+use Rattle.tilings.specs.Tilings.{Part, None, Given, Entry, entries, Table}
 use Rattle.boards.specs.Pieces.{board}
 use Rattle.boards.proofs.Laws.{board-laws}
-use Rattle.records.specs.Records.{recordSize, recordOf, recordsFrom}
+use Rattle.records.specs.Records.{recordSize, recordsFrom}
 use Rattle.records.proofs.Sizes.{records-length}
-use Rattle.questions.specs.Tiling.{tableFaults, refusal, figures, handing, HandsOver, Refused, Answered, TilingReply}
+use Rattle.questions.specs.Tiling.{tableFaults, refusal, figures, handing, HandsOver, Answered, TilingReply}
 use Rattle.questions.specs.declared.Answer.{Answer}
 use Rattle.questions.proofs.Handed.{handing-whole}
 

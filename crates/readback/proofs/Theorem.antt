@@ -28,7 +28,7 @@ use Rattle.boards.proofs.Transfer.{Transfer, transfer}
 use Rattle.records.specs.Records.{recordSize, recordsFrom}
 use Rattle.questions.specs.Tiling.{TilingReply}
 use Rattle.questions.specs.declared.Answer.{Answer}
-use Rattle.readback.specs.Shown.{Map, textOf, Line, P, G, linesFrom, partsOf, Sample, tiling, noTiling, allCentres, TilingShown, NoneShown, CentresShown, Shown, AllShown}
+use Rattle.readback.specs.Shown.{textOf, Line, P, G, linesFrom, partsOf, Sample, tiling, noTiling, allCentres, TilingShown, NoneShown, CentresShown, Shown, AllShown}
 use Rattle.readback.specs.Samples.{samples}
 use Rattle.readback.proofs.Lengths.{outward, longest, lengthsOf, lengths-held}
 use Rattle.readback.proofs.Deciding.{implies, everyTiling, sooner?, same?, upfront?, better?, tiles?, permitted?, entry?, given?-is, none?-is, entry?-is}

@@ -2,7 +2,7 @@
 use mathlib.Core.List.{List, [], _∷_}
 use Prim.Native.Nat.{ℕ}
 use Rattle.terms.specs.declared.limits.Limits.{Limits}
-use Rattle.readback.specs.Shown.{Sample, tiling, noTiling, allCentres, plain, complement, Line, P, G}
+use Rattle.readback.specs.Shown.{Sample, tiling, noTiling, allCentres, plain, complement, P, G}
 
 abbrev pub limits : ℕ → ℕ → ℕ → ℕ → Limits
 limits k m g d = record { kind = k; m = m; g = g; d = d }

@@ -1,7 +1,7 @@
 -- What an example shows, and when it holds: of the definitions, and of every reply that the promises allow.
 use mathlib.Core.Path.{_≡_}
-use mathlib.Core.List.{List, [], _∷_, _++_}
-use Prim.Native.Nat.{ℕ, _+_, _*_, _/_, _%_, _≤_}
+use mathlib.Core.List.{List, [], _∷_}
+use Prim.Native.Nat.{ℕ, _+_, _*_, _≤_}
 use lib.ListN.{length, take}
 use Rattle.terms.specs.Maps.{plainMap, complementMap}
 use Rattle.terms.specs.Texts.{Text, text, size}

@@ -1,9 +1,8 @@
 // The tiling given, read out of the table.
 use table::at;
 use table::is_piece;
-ghost use mathlib.Core.Path.{_≡_};
 ghost use Prim.Native.Nat.{ℕ, _+_, _-_, _*_, _<_, _≤_};
-ghost use lib.ListN.{length, getD};
+ghost use lib.ListN.{length};
 ghost use Rattle.terms.specs.Tells.{Tells};
 ghost use Rattle.tilings.specs.Work.{boardBy, Reaches, Tiled};
 ghost use Rattle.table.specs.Work.{Known};

@@ -12,7 +12,7 @@ use Rattle.tilings.specs.Tilings.{Part, piece, gap}
 use Rattle.tilings.specs.Laws.{lengthOf}
 use Rattle.tilings.specs.Work.{decode, decoded}
 use Rattle.tilings.proofs.Codes.{decode-even, decode-odd}
-use Rattle.records.specs.Records.{recordSize, errorsOf, recordOf, recordsFrom}
+use Rattle.records.specs.Records.{recordSize, recordOf, recordsFrom}
 use Rattle.records.specs.Work.{Fit, Writable}
 
 pub six-set : (l : List ℕ) (p a b c d e f : ℕ) → p + 6 ≤ length l

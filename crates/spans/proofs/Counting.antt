@@ -1,13 +1,13 @@
 -- The error count of a span, from the outermost pair inward, and along a centre. Assumes nothing.
-use mathlib.Core.Path.{_≡_, refl, sym, ap, ap₂, _∙_, subst}
-use mathlib.Core.Bool.{Bool, true, false, not, _&&_}
+use mathlib.Core.Path.{_≡_, refl, ap, ap₂, _∙_}
+use mathlib.Core.Bool.{Bool, false, _&&_}
 use mathlib.Core.List.{List}
-use Prim.Native.Nat.{ℕ, zero, suc, _+_, _-_, _*_, _/_, _%_, _≤_, _<_, zero-le, suc-le-suc}
+use Prim.Native.Nat.{ℕ, zero, suc, _+_, _-_, _/_, _%_, _≤_, _<_}
 use native.Mathlib.Omega.{arith}
 use native.Mathlib.Nat.{add-zero}
 use borrow.Author.Tests.{lt-ltb, le-ltb}
 use lib.Dec.{ltb, eqb, leb·suc-suc}
-use Rattle.spans.specs.Palindromes.{letter, differs, one, count, wrongPair, wrongMiddle, errorCount}
+use Rattle.spans.specs.Palindromes.{differs, one, count, wrongPair, wrongMiddle, errorCount}
 
 count-shift : (p : ℕ → Bool) (n : ℕ) → count p (suc n) ≡ one (p 0) + count (λ k. p (suc k)) n
 unfolding count

@@ -1,16 +1,14 @@
 -- Exact palindromes are those with no error; and what a centre's maximal length says of a span. Assumes nothing.
-use mathlib.Core.Path.{_≡_, refl, sym, ap, ap₂, _∙_, subst, subst₂}
+use mathlib.Core.Path.{_≡_, refl, sym, ap, ap₂, _∙_, subst₂}
 use mathlib.Core.Bool.{Bool, true, false, not}
-use mathlib.Core.Logic.{_⊎_, inl, inr, ⊎-elim}
+use mathlib.Core.Logic.{_⊎_, ⊎-elim}
 use mathlib.Core.List.{List}
-use Prim.Native.Nat.{ℕ, zero, suc, _+_, _-_, _*_, _≤_, _<_}
+use Prim.Native.Nat.{ℕ, zero, suc, _+_, _-_, _≤_, _<_}
 use native.Mathlib.Omega.{arith}
-use native.Mathlib.Nat.{le-antisymm, add-zero}
 use borrow.Author.Tests.{eq-eqb, eqb-true}
 use lib.Dec.{eqb}
-use lib.ListN.{getD}
 use Rattle.terms.specs.Maps.{partner}
-use Rattle.terms.specs.Texts.{Text, size, text}
+use Rattle.terms.specs.Texts.{Text, size}
 use Rattle.spans.specs.Palindromes.{letter, differs, one, errorCount, ExactPalindrome, DPalindrome, centre, Maximal, MaximalLength}
 use Rattle.spans.proofs.Counting.{from, from-mono, errors-none, errors-one, errors-two}
 use Rattle.terms.proofs.Order.{le-or-lt}

@@ -1,7 +1,7 @@
 -- Spans, palindromes, error counts and maximal lengths (01, "Letters, spans and palindromes").
 -- A span of the string s is a first place a and a length L, 1 or more: its letters are x[k] = s[a + k] for k below L.
 use mathlib.Core.Path.{_≡_}
-use mathlib.Core.Bool.{Bool, true, false, not, cond, _&&_}
+use mathlib.Core.Bool.{Bool, true, false, not, _&&_}
 use mathlib.Core.List.{List}
 use mathlib.Core.Logic.{_⊎_}
 use Prim.Native.Nat.{ℕ, zero, suc, _+_, _-_, _*_, _/_, _%_, _≤_, _<_}

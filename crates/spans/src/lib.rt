@@ -9,9 +9,9 @@ ghost use mathlib.Core.Path.{_≡_};
 ghost use Prim.Native.Nat.{_≤_};
 ghost use lib.ListN.{length};
 ghost use Rattle.terms.specs.Refusals.{firstFault};
-ghost use Rattle.terms.specs.Texts.{text, size, textFaults, pairFaults};
+ghost use Rattle.terms.specs.Texts.{text};
 ghost use Rattle.terms.specs.Passed.{SoundText};
-ghost use Rattle.spans.specs.Palindromes.{centres, errorCount};
+ghost use Rattle.spans.specs.Palindromes.{centres};
 ghost use Rattle.spans.specs.Centres.{Lengths, centresFaults, CentresReply};
 
 // The number of centres of n letters.

@@ -1,7 +1,7 @@
 // The walk of one centre, from the middle outward.
 use crate::pairs::differ;
 ghost use mathlib.Core.Path.{_≡_};
-ghost use Prim.Native.Nat.{_+_, _-_, _*_, _≤_, _<_};
+ghost use Prim.Native.Nat.{_+_, _-_, _≤_, _<_};
 ghost use lib.ListN.{length};
 ghost use Rattle.terms.specs.Texts.{text};
 ghost use Rattle.spans.specs.Palindromes.{centres, MaximalLength};

@@ -5,12 +5,11 @@ use mathlib.Core.Logic.{inl, inr, ⊎-elim}
 use Prim.Native.Nat.{ℕ, zero, suc, _+_, _-_, _*_, _≤_, _<_}
 use native.Mathlib.Omega.{arith}
 use native.Mathlib.Decide.{ℕ-discrete}
-use native.Mathlib.Nat.{add-zero, add-assoc, mul-le-mul-right}
+use native.Mathlib.Nat.{mul-le-mul-right}
 use native.Mathlib.Numerals.{add-one}
-use lib.ListN.{length, getD, set}
+use lib.ListN.{length, getD}
 use Rattle.rows.specs.Rows.{Cleared, Lowered, Moved, Stored}
 use Rattle.terms.proofs.Order.{le-or-lt}
-use Rattle.terms.proofs.Ranges.{Filled, fill-none, fill-up}
 use Rattle.tilings.specs.Tilings.{Board, Part, piece, gap, gaps, Entry, entries}
 use Rattle.tilings.specs.Work.{Best, Gaps, Lesser}
 use Rattle.tilings.proofs.Best.{entry-best, best-entry, best-same, pieces-start, pieces-jump, pieces-more, pieces-all, all-best, gaps-step}

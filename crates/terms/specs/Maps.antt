@@ -1,5 +1,5 @@
 -- Letter maps (01, "Letters, spans and palindromes"): a map f is 256 bytes, with f(f(x)) = x for every byte x.
-use mathlib.Core.Bool.{Bool, true, false, not, cond, _&&_}
+use mathlib.Core.Bool.{Bool, true, not, cond, _&&_}
 use mathlib.Core.List.{List, [], _∷_}
 use Prim.Native.Nat.{ℕ, zero, suc}
 use lib.Dec.{eqb}

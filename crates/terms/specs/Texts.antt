@@ -1,9 +1,9 @@
 -- A string with its letter map, and the refusals of an opening.
 use mathlib.Core.Bool.{Bool, _||_}
-use mathlib.Core.List.{List, [], _∷_, _++_}
+use mathlib.Core.List.{List, _∷_, _++_}
 use Prim.Native.Nat.{ℕ}
 use lib.Dec.{ltb}
-use lib.ListN.{length, getD}
+use lib.ListN.{length}
 use Rattle.terms.specs.Sizes.{mostLetters}
 use Rattle.terms.specs.Maps.{mapFaults}
 use Rattle.terms.specs.Limits.{limitsFaults}

@@ -2,13 +2,12 @@
 use mathlib.Core.Path.{_≡_, refl, sym, ap, _∙_, subst}
 use mathlib.Core.List.{List, [], _∷_}
 use mathlib.Core.Logic.{_⊎_, inl, inr, ⊎-elim}
-use Prim.Native.Nat.{ℕ, zero, suc, _+_, _-_, _*_, _≤_, _<_}
+use Prim.Native.Nat.{ℕ, zero, suc, _+_, _-_, _≤_, _<_}
 use native.Mathlib.Omega.{arith}
-use native.Mathlib.Numerals.{add-one}
 use Rattle.terms.proofs.Order.{le-or-lt}
 use Rattle.tilings.proofs.Covers.{gaps-fit}
-use Rattle.tilings.specs.Work.{Best, PieceUnder, Pieces, PieceFirst, Firsts, Gaps, Lesser, Onward}
-use Rattle.tilings.specs.Tilings.{Board, Part, piece, gap, gaps, total, GapFirst, Tiles, Permitted, None, Least, Entry}
+use Rattle.tilings.specs.Work.{Best, Pieces, Firsts, Gaps, Lesser, Onward}
+use Rattle.tilings.specs.Tilings.{Board, Part, piece, gap, gaps, total, Tiles, Permitted, Entry}
 
 -- An entry of the table is the best of all.
 pub entry-best : (B : Board) (i q v : ℕ) → Entry B i q v → Best (Permitted B i q) v

@@ -1,11 +1,11 @@
 -- The parts of a tiling cover the letters: their lengths add up, their gaps fit, they are no more than the letters. Assumes nothing.
 use mathlib.Core.Path.{_≡_}
 use mathlib.Core.List.{List, [], _∷_}
-use Prim.Native.Nat.{ℕ, suc, _+_, _≤_, _<_}
+use Prim.Native.Nat.{ℕ, _+_, _≤_}
 use native.Mathlib.Omega.{arith}
 use lib.ListN.{length}
-use Rattle.tilings.specs.Tilings.{Board, Part, piece, gap, gaps, total, Tiles, Permitted}
-use Rattle.tilings.specs.Laws.{lengthOf, lengths}
+use Rattle.tilings.specs.Tilings.{Board, Part, piece, gap, total, Tiles}
+use Rattle.tilings.specs.Laws.{lengths}
 
 module _ (B : Board) where
   pub covers : (i : ℕ) (ps : List Part) → Tiles B i ps → i + lengths ps ≡ B .size

@@ -2,11 +2,11 @@
 use mathlib.Core.Path.{_≡_, refl, sym, ap, _∙_, subst}
 use mathlib.Core.List.{List, [], _∷_}
 use mathlib.Core.Logic.{_⊎_, inl, inr, ⊎-elim}
-use Prim.Native.Nat.{ℕ, zero, suc, _+_, _-_, _*_, _≤_, _<_}
+use Prim.Native.Nat.{ℕ, suc, _+_, _-_, _≤_, _<_}
 use native.Mathlib.Omega.{arith}
 use native.Mathlib.Nat.{le-antisymm}
 use Rattle.terms.proofs.Order.{le-or-lt}
-use Rattle.tilings.specs.Tilings.{Board, Part, piece, gap, gaps, total, GapFirst, Tiles, Permitted, Sooner, Before, Given, None, Least, Entry}
+use Rattle.tilings.specs.Tilings.{Board, Part, piece, gap, gaps, total, GapFirst, Tiles, Permitted, Before, Given, Least}
 use Rattle.tilings.specs.Work.{Reaches, Ends}
 use Rattle.tilings.proofs.Covers.{gaps-fit}
 

@@ -1,11 +1,11 @@
 -- The laws for a reader hold on every board whose pieces have letters. Assumes nothing.
-use mathlib.Core.Path.{_≡_, sym, subst}
-use mathlib.Core.List.{List, [], _∷_}
-use mathlib.Core.Logic.{_⊎_, inl, inr, ⊎-elim}
-use Prim.Native.Nat.{ℕ, zero, suc, _+_, _≤_, _<_}
+use mathlib.Core.Path.{_≡_, sym}
+use mathlib.Core.List.{[], _∷_}
+use mathlib.Core.Logic.{_⊎_, ⊎-elim}
+use Prim.Native.Nat.{ℕ, _+_, _≤_, _<_}
 use native.Mathlib.Omega.{arith}
 use Rattle.terms.proofs.Order.{le-or-lt}
-use Rattle.tilings.specs.Tilings.{Board, Part, gap, Permitted, None}
+use Rattle.tilings.specs.Tilings.{Board, gap, Permitted, None}
 use Rattle.tilings.specs.Laws.{lengths, TilingLaws}
 use Rattle.tilings.proofs.Covers.{covers, parts-fit}
 use Rattle.tilings.proofs.Unique.{given-unique, entry-unique, table-unique}

@@ -1,10 +1,9 @@
 -- Two boards with the same pieces have the same tilings, entries and tables. Assumes nothing.
 use mathlib.Core.Path.{_≡_, _∙_, subst}
 use mathlib.Core.List.{List, [], _∷_}
-use mathlib.Core.Logic.{_⊎_, inl, inr}
-use Prim.Native.Nat.{ℕ, _+_, _*_, _≤_, _<_}
-use lib.ListN.{length, getD}
-use Rattle.tilings.specs.Tilings.{Board, Part, piece, gap, total, Tiles, Permitted, Given, None, Least, Entry, entries, Table}
+use mathlib.Core.Logic.{inl, inr}
+use Prim.Native.Nat.{ℕ, _+_, _≤_}
+use Rattle.tilings.specs.Tilings.{Board, Part, piece, gap, Tiles, Permitted, Given, None, Entry, entries, Table}
 
 -- The pieces of A are pieces of B, of one size.
 pub record Into (A B : Board) : Type 0 where

@@ -1,14 +1,14 @@
 -- The tiling given is one; so are the least total, an entry and a table. Assumes nothing.
-use mathlib.Core.Path.{_≡_, refl, sym, ap, _∙_, subst}
+use mathlib.Core.Path.{_≡_, sym, _∙_, subst}
 use mathlib.Core.List.{List, [], _∷_}
 use mathlib.Core.Logic.{_⊎_, inl, inr, ⊎-elim}
-use Prim.Native.Nat.{ℕ, suc, _+_, _*_, _/_, _%_, _≤_, _<_}
+use Prim.Native.Nat.{ℕ, _+_, _*_, _/_, _%_, _≤_, _<_}
 use native.Mathlib.Omega.{arith}
 use native.Mathlib.Nat.{le-antisymm, div-add-mod', mod-lt, div-lt-iff-lt-mul}
 use lib.ListN.{length, getD}
 use lib.Seq.{ext-getD}
 use Rattle.terms.proofs.Order.{le-or-lt}
-use Rattle.tilings.specs.Tilings.{Board, Part, piece, gap, gaps, total, GapFirst, Tiles, Permitted, Sooner, Before, Given, None, Least, Entry, entries, Table}
+use Rattle.tilings.specs.Tilings.{Board, Part, piece, gap, total, Sooner, Before, Given, Entry, entries, Table}
 
 sooner-asym : (p q : Part) → Sooner p q → Sooner q p → ⊥
 sooner-asym (piece L) (piece M) h k = omega arith

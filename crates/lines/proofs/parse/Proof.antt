@@ -1,8 +1,6 @@
 -- `parse` meets its contract. Assumes nothing.
 use Rattle.lines.proofs.Reading.{line-reads, too-long}
 use borrow.Author.Needs.{needs}
-use Rattle.lines.specs.declared.Line.{Line}
-use Rattle.lines.specs.Lines.{Reads}
 use Rattle.lines.proofs.parse.Statement.{statement}
 use Rattle.lines.proofs.parse.Tie as tie
 

@@ -1,5 +1,4 @@
 -- `table_refusal` meets its contract. Assumes nothing.
-use Prim.Native.Nat.{_+_}
 use borrow.Author.Needs.{needs}
 use lib.ListN
 use native.Mathlib.Omega.{arith}

@@ -1,7 +1,7 @@
 -- `fill_lengths` meets its contract: the entries below c hold their centres' maximal lengths. Assumes nothing.
 use Prim.Native.Nat.{_-_, _≤_}
 use lib.ListN
-use mathlib.Core.Path.{_≡_, refl}
+use mathlib.Core.Path.{_≡_}
 use native.Mathlib.Omega.{arith}
 use Rattle.terms.proofs.Ranges.{Filled, fill-none, fill-up}
 use Rattle.terms.specs.Texts.{text}

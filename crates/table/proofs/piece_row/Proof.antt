@@ -1,6 +1,6 @@
 -- `piece_row` meets its contract: the row has the least totals of the tilings that begin with a piece of a centre before c. Assumes nothing.
 use mathlib.Core.Path.{_≡_}
-use Prim.Native.Nat.{_+_, _-_, _≤_}
+use Prim.Native.Nat.{_+_, _-_}
 use lib.ListN.{length}
 use Rattle.tilings.specs.Work.{boardBy}
 use Rattle.ways.specs.Ways.{Next}

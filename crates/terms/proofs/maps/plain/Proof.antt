@@ -1,6 +1,6 @@
 -- `plain` meets its contract: the entries below x hold their own place. Assumes nothing.
 use mathlib.Core.Path.{_≡_, refl}
-use Prim.Native.Nat.{ℕ, _≤_, _-_}
+use Prim.Native.Nat.{_≤_, _-_}
 use native.Mathlib.Omega.{arith}
 use Rattle.terms.proofs.Ranges.{Filled, fill-none, fill-up}
 use Rattle.terms.proofs.Supplied.{plain-filled}

@@ -1,7 +1,5 @@
 -- `texts::opening_refusal` meets its contract: the text's refusal stands, or else the limits' is the first. Assumes nothing.
-use mathlib.Core.Path.{sym, _∙_}
 use borrow.Author.Needs.{needs}
-use Rattle.terms.specs.Texts.{openingFaults}
 use Rattle.terms.proofs.Refusals.{text-refuses, text-passes}
 use Rattle.terms.proofs.texts.opening_refusal.Statement.{statement}
 use Rattle.terms.proofs.texts.opening_refusal.Tie as tie
