@@ -1,6 +1,5 @@
 -- Two replies to one line are equal. Assumes nothing.
-use mathlib.Core.Path.{_≡_, refl, sym, ap, ap₂, _∙_, subst}
-use mathlib.Core.Bool.{Bool, true, false}
+use mathlib.Core.Path.{_≡_, sym, ap, ap₂, _∙_, subst}
 use mathlib.Core.List.{List}
 use mathlib.Core.Logic.{_⊎_, inl, inr}
 use Prim.Native.Nat.{ℕ, _+_, _<_, min}
@@ -14,34 +13,25 @@ use Rattle.boards.specs.Pieces.{board}
 use Rattle.questions.specs.Tiling.{figures}
 use Rattle.questions.specs.declared.Answer.{Answer}
 use Rattle.sheet.specs.Bounds.{textOf}
-use Rattle.questions.proofs.Readers.{one-reply}
-use Rattle.sheet.specs.Question.{SheetReply}
 use Rattle.sheet.specs.declared.Sheet.{Sheet}
+use Rattle.sheet.proofs.Asked.{sheet-laws}
 use Rattle.lines.specs.declared.Line.{Line}
 use Rattle.lines.specs.declared.Line.the-variants.{Open, Letter, Limits, TakeBack, PutAgain, Question, Unknown}
 use Rattle.lines.proofs.Reading.{one-reading}
 use Rattle.replies.specs.Replies.{refusalText, tilingText}
 use Rattle.desk.specs.declared.Desk.{Desk}
-use Rattle.desk.specs.declared.Turn.{Turn}
-use Rattle.desk.specs.Desk.{Shown, Stay, Does, DeskReply, OneTurn}
-
--- the question on a sheet has one reply
-sheet-one : (s : Sheet) (t t′ t″ m m′ m″ : List ℕ) (a b : Answer) → SheetReply s t t′ m m′ a → SheetReply s t t″ m m″ b → (t′ ≡ t″) × (m′ ≡ m″) × (a ≡ b)
-sheet-one s t t′ t″ m m′ m″ a b (inl p) (inl q) = (p .2 ∙ sym (q .2), p .3 ∙ sym (q .3), p .1 ∙ sym (q .1))
-sheet-one s t t′ t″ m m′ m″ a b (inl p) (inr q) = absurd (subst T (sym (q .0) ∙ p .0) tt)
-sheet-one s t t′ t″ m m′ m″ a b (inr p) (inl q) = absurd (subst T (sym (p .0) ∙ q .0) tt)
-sheet-one s t t′ t″ m m′ m″ a b (inr p) (inr q) = one-reply (textOf s) (s .limits) t m t′ t″ m′ m″ a b (p .1) (q .1)
+use Rattle.desk.specs.Desk.{Shown, Stay, Does, OneTurn}
 
 -- figures are no refusal
 figures-not : (a b : Answer) (ps : List Part) → a ≡ b → 0 < a .number → b ≡ figures ps → ⊥
 figures-not a b ps e h f = let z : a .number ≡ 0 = ap (λ (x : Answer). x .number) (e ∙ f) in omega arith
 
--- and so has what is shown of it
+-- what is shown of a question is one
 shown-one : (s : Sheet) (t t′ t″ m m′ m″ x y : List ℕ) → Shown s t t′ m m′ x → Shown s t t″ m m″ y → (t′ ≡ t″) × (m′ ≡ m″) × (x ≡ y)
 shown-one s t t′ t″ m m′ m″ x y p q = (same .0, same .1, go (p .printed) (q .printed))
   where
     same : (t′ ≡ t″) × (m′ ≡ m″) × (p .answer ≡ q .answer)
-    same = sheet-one s t t′ t″ m m′ m″ (p .answer) (q .answer) (p .reply) (q .reply)
+    same = sheet-laws s t m .one t′ t″ m′ m″ (p .answer) (q .answer) (p .reply) (q .reply)
 
     Print : Answer → List ℕ → Type 0
     Print a z = ((0 < a .number) × (z ≡ refusalText (a .number))) ⊎ ((ps : List Part) × Given (board (textOf s) (s .limits)) 0 (s .limits .g) ps × (a ≡ figures ps) × (z ≡ tilingText (textOf s) ps))

@@ -45,7 +45,7 @@ module _ (s : Sheet) (w : inBounds s ≡ true) where
         ∙ b .kept
 
     pub changed-bounds : length (s .kept) ≡ 64 → s .standing < 64 → inBounds (changed s e .sheet) ≡ true
-    unfolding changed applied
+    unfolding changed
     changed-bounds room few =
         let b = bounds s w in
         within (changed s e .sheet) (b .letters) (b .map) (limits-after s (b .limits) e a) (omega arith)

@@ -4,14 +4,14 @@ use mathlib.Core.Bool.{Bool, true, false, cond}
 use mathlib.Core.List.{List, _∷_}
 use Prim.Native.Nat.{ℕ, suc, _≤_}
 use native.Mathlib.Omega.{arith}
-use borrow.Author.Tests.{eqb-true, eqb-false, le-ltb, ltb-false}
+use borrow.Author.Tests.{eqb-true, eqb-false, ltb-false}
 use lib.Dec.{eqb}
 use Rattle.terms.specs.Refusals.{firstFault}
 use Rattle.terms.specs.Maps.{mapFaults}
 use Rattle.terms.specs.Limits.{limitsFaults}
 use Rattle.terms.specs.Texts.{Text, size, textFaults, openingFaults}
 use Rattle.terms.specs.declared.limits.Limits.{Limits}
-use Rattle.terms.proofs.Refusals.{fault-none, text-numbered, text-passes}
+use Rattle.terms.proofs.Refusals.{fault-none, text-numbered}
 use Rattle.changes.specs.declared.Edit.{Edit}
 use Rattle.sheet.specs.Calls.{numberOf, refusing, answered}
 use Rattle.sheet.specs.declared.Reply.{Reply}
@@ -43,12 +43,8 @@ decide-accepts fs h e = go (eqb (firstFault fs) 0) refl
     go true q z = refl
     go false q z = absurd (eqb-false _ _ q z)
 
--- an opening is accepted where its string is no longer than 1,000, its map passes and its limits pass; and only there
+-- an opening is accepted only where its string is no longer than 1,000, its map passes and its limits pass
 module _ (x : Text) (l : Limits) where
-  pub opening-passes : size x ≤ 1000 → firstFault (mapFaults (x .map)) ≡ 0 → firstFault (limitsFaults l) ≡ 0 → firstFault (openingFaults x l) ≡ 0
-  unfolding textFaults firstFault
-  opening-passes n f g = sym (text-passes x l 0 0 (simp (le-ltb _ _ n) (sym f)) refl (sym g))
-
   pub opening-passed : firstFault (openingFaults x l) ≡ 0 → (size x ≤ 1000) × (firstFault (mapFaults (x .map)) ≡ 0) × (firstFault (limitsFaults l) ≡ 0)
   unfolding openingFaults textFaults
   opening-passed e =

@@ -3,9 +3,9 @@ use mathlib.Core.Path.{_≡_, refl, sym, subst, _∙_}
 use mathlib.Core.Bool.{true, false}
 use mathlib.Core.List.{List, []}
 use mathlib.Core.Logic.{inl, inr}
-use Prim.Native.Nat.{ℕ, _≤_}
+use Prim.Native.Nat.{ℕ}
 use native.Mathlib.Omega.{arith}
-use lib.ListN.{length-replicate, length-take}
+use lib.ListN.{length-replicate}
 use Rattle.terms.specs.Refusals.{firstFault}
 use Rattle.terms.specs.Maps.{plainMap}
 use Rattle.terms.specs.Limits.{limitsFaults, wrongKind, outOfRange, tooManyErrors}
@@ -17,18 +17,19 @@ use Rattle.questions.specs.Tiling.{TilingReply}
 use Rattle.questions.specs.declared.Answer.{Answer}
 use Rattle.questions.proofs.Readers.{one-reply}
 use Rattle.changes.specs.Changes.{acceptsChange}
-use Rattle.sheet.specs.Bounds.{noChange, keptAt, inBounds, textOf}
+use Rattle.sheet.specs.Bounds.{noChange, keptAt, inBounds}
 use Rattle.sheet.specs.Calls.{numberOf, opened, blankSheet, openCall}
 use Rattle.sheet.specs.Question.{SheetReply}
 use Rattle.sheet.specs.declared.Said.the-variants.{Opened}
 use Rattle.sheet.specs.declared.Sheet.{Sheet}
-use Rattle.sheet.proofs.Within.{within, bounds}
+use Rattle.sheet.proofs.Within.{within}
 use Rattle.sheet.proofs.Replying.{answer-yes}
+use Rattle.sheet.proofs.Asked.{opening-passes, content-opens}
 use Rattle.history.specs.History.{Content, made}
 use Rattle.history.specs.Runs.{contentOf, standingOf, FreshReply}
 use Rattle.history.proofs.Padding.{content-is}
 use Rattle.history.proofs.Invariant.{Invariant}
-use Rattle.history.proofs.Faults.{number-is, opening-passes, opening-passed}
+use Rattle.history.proofs.Faults.{number-is, opening-passed}
 
 module _ (x : Text) (l : Limits) where
   abbrev opening : Content
@@ -62,13 +63,7 @@ module _ (t t′ room room′ : List ℕ) (r : Answer) where
   reply-of s c w e (inl a) = let z : true ≡ false = sym w ∙ a .0 in let y : _≡_ {A = ℕ} 0 1 = cc in absurd (omega arith)
   reply-of s c w e (inr a) = subst (λ (d : Content). TilingReply (d .text) (d .limits) t t′ room room′ r) e (a .1)
 
--- what a sheet in its bounds holds could be opened
-content-opens : (s : Sheet) → inBounds s ≡ true → firstFault (openingFaults (textOf s) (s .limits)) ≡ 0
-content-opens s w =
-    let b = bounds s w in
-    let n : s .n ≤ 1000 = b .letters in
-    opening-passes (textOf s) (s .limits) (simp length-take (omega arith)) (b .map) (b .limits)
-
+-- a question's reply is the one that a sheet newly opened gives
 pub fresh-reply : {o : Content} {s : Sheet} → Invariant o s → (t t′ room room′ : List ℕ) (r : Answer) → SheetReply s t t′ room room′ r
     → FreshReply (made o (standingOf s)) t t′ room room′ r
 unfolding opened

@@ -22,7 +22,7 @@ use Rattle.sheet.specs.Calls.{refusing, answered, applied, changed, letterFault
 use Rattle.sheet.specs.declared.Reply.{Reply}
 use Rattle.sheet.specs.declared.Said.{Said}
 use Rattle.sheet.specs.declared.Sheet.{Sheet}
-use Rattle.sheet.proofs.Replying.{answer-no, answer-yes, pop-none, pop-some, back-8, back-0, again-9, again-0}
+use Rattle.sheet.proofs.Replying.{answer-no, answer-yes, pop-none, pop-some, back-number, again-number}
 use Rattle.history.specs.History.{Content, History, Request, letter, limits, takeBack, putAgain, make, back, made, current, moved, accept, refuse, decide, full, reckon}
 use Rattle.history.specs.Runs.{standingFrom, standingOf, perform}
 use Rattle.history.proofs.Lists.{standing-length}
@@ -38,22 +38,22 @@ counting s st tk =
 
 -- take-back, by the number standing; put-again, by the number taken back
 pub back-refused : (z : Sheet) → inBounds z ≡ true → z .standing ≡ 0 → takeBackCall z ≡ refusing z 8
-back-refused z w e = answer-no _ _ _ 8 (back-8 z w (pop-none (z .standing) (newestOf z) e)) (λ h. omega arith)
+back-refused z w e = answer-no _ _ _ 8 (back-number z w 8 (pop-none 8 (z .standing) (newestOf z) e .1)) (λ h. omega arith)
 
 pub back-made : (s : Sheet) (j tk : ℕ) → inBounds (counting s (suc j) tk) ≡ true
     → takeBackCall (counting s (suc j) tk) ≡ applied (counting s (suc j) tk) (backOf (keptAt (s .kept) j)) j (suc tk)
 back-made s j tk w =
     let p : suc j - 1 ≡ j = omega arith in
-    answer-yes _ _ _ (back-0 (counting s (suc j) tk) w _ (pop-some (suc j) _ (λ e. omega arith))) ∙ rw (p, add-one)
+    answer-yes _ _ _ (back-number (counting s (suc j) tk) w 0 (pop-some 8 (suc j) (keptAt (s .kept) j) (λ e. omega arith) .1)) ∙ rw (p, add-one)
 
 again-refused : (z : Sheet) → inBounds z ≡ true → z .taken ≡ 0 → putAgainCall z ≡ refusing z 9
-again-refused z w e = answer-no _ _ _ 9 (again-9 z w (pop-none (z .taken) (lastTaken z) e)) (λ h. omega arith)
+again-refused z w e = answer-no _ _ _ 9 (again-number z w 9 (pop-none 9 (z .taken) (lastTaken z) e .1)) (λ h. omega arith)
 
 pub again-made : (s : Sheet) (st t : ℕ) → inBounds (counting s st (suc t)) ≡ true
     → putAgainCall (counting s st (suc t)) ≡ applied (counting s st (suc t)) (doneOf (keptAt (s .kept) st)) (suc st) t
 again-made s st t w =
     let p : suc t - 1 ≡ t = omega arith in
-    answer-yes _ _ _ (again-0 (counting s st (suc t)) w _ (pop-some (suc t) _ (λ e. omega arith))) ∙ rw (p, add-one)
+    answer-yes _ _ _ (again-number (counting s st (suc t)) w 0 (pop-some 9 (suc t) (keptAt (s .kept) st) (λ e. omega arith) .1)) ∙ rw (p, add-one)
 
 module _ (o : Content) where
   replied : (x : History × Said) (r r′ : Reply) → r ≡ r′ → Agrees o r′ x → Agrees o r x

@@ -8,7 +8,7 @@ use Rattle.terms.specs.Texts.{Text}
 use Rattle.tilings.specs.Tilings.{Part, gaps, total}
 use Rattle.tilings.specs.Laws.{lengthOf}
 use Rattle.records.specs.Records.{tagOf, errorsOf}
-use Rattle.sheet.specs.Calls.{numberOf}
+use Rattle.sheet.specs.Calls.{numberOf, valuesOf}
 use Rattle.sheet.specs.declared.Said.{Said}
 use Rattle.sheet.specs.declared.Said.the-variants.{Letter, Limits, Opened, No}
 use Rattle.printing.specs.Printing.{printed}
@@ -19,10 +19,10 @@ refusalText k = printed 33 (k ∷ [])
 
 -- `O n 0`; `L place old new standing`; `M kind m g d standing`.
 abbrev pub saidText : Said → List ℕ
-saidText (Opened n) = printed 79 (n ∷ 0 ∷ [])
-saidText (Letter p old new k) = printed 76 (p ∷ old ∷ new ∷ k ∷ [])
-saidText (Limits l k) = printed 77 (l .kind ∷ l .m ∷ l .g ∷ l .d ∷ k ∷ [])
-saidText (No k) = refusalText k
+saidText (Opened n) = printed 79 (valuesOf (Opened n))
+saidText (Letter p old new k) = printed 76 (valuesOf (Letter p old new k))
+saidText (Limits l k) = printed 77 (valuesOf (Limits l k))
+saidText (No k) = refusalText (numberOf (No k))
 
 -- After B or A that letter, a space and the L or M line of what was restored.
 abbrev pub restoredText : ℕ → Said → List ℕ

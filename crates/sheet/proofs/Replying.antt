@@ -1,12 +1,12 @@
 -- What each call gives: a refusal by its first fault, or what is accepted. Assumes nothing.
 use mathlib.Core.Path.{_≡_, refl, sym, ap, ap₂, _∙_}
-use mathlib.Core.Bool.{Bool, true, false, not, cond, _&&_}
+use mathlib.Core.Bool.{Bool, true, false, not}
 use mathlib.Core.List.{List, [], _∷_, _++_}
 use Prim.Native.Nat.{ℕ, _+_, _-_, _≤_, _<_}
 use native.Mathlib.Omega.{arith}
 use borrow.Author.Tests.{le-leb, lt-leb, eq-eqb, ne-eqb, eqb-true, eqb-false, ltb-true, lt-ltb, leb-false}
-use lib.Dec.{leb, eqb, ltb}
-use lib.ListN.{getD, length}
+use lib.Dec.{leb, eqb}
+use lib.ListN.{length}
 use Rattle.terms.specs.Refusals.{firstFault}
 use Rattle.terms.specs.Limits.{limitsFaults}
 use Rattle.terms.specs.Texts.{Text, openingFaults}
@@ -18,15 +18,23 @@ use Rattle.changes.specs.Changes.{doneOf, backOf, accepts, acceptsChange}
 use Rattle.changes.specs.declared.Change.{Change}
 use Rattle.changes.specs.declared.Edit.{Edit}
 use Rattle.changes.specs.declared.Edit.the-variants.{Letter, Limits as EditLimits}
-use Rattle.sheet.specs.Bounds.{keptAt, inBounds}
 use Rattle.places.specs.Places.{padded}
-use Rattle.sheet.specs.Calls.{numberOf, refusing, answered, CallReply, saidBy, applied, replacing, keeping, changed, letterFaults, limitsCallFaults, newestOf, lastTaken, popping, poppedNumber, takeBackFaults, putAgainFaults, unchangedOf, opened, blankSheet, openCall}
-use Rattle.sheet.specs.declared.Popped.{Popped}
+use Rattle.sheet.specs.Bounds.{keptAt, inBounds}
+use Rattle.sheet.specs.Calls.{numberOf, valuesOf, refusing, answered, CallReply, saidBy, applied, changed, letterFaults, limitsCallFaults, newestOf, lastTaken, takeBackFaults, putAgainFaults, opened, blankSheet, openCall}
+use Rattle.sheet.specs.Work.{unchangedOf, popping}
 use Rattle.sheet.specs.declared.Popped.the-variants.{Change as PoppedChange, Nothing}
-use Rattle.sheet.specs.declared.Said.the-variants.{Opened}
+use Rattle.sheet.specs.declared.Said.{Said}
+use Rattle.sheet.specs.declared.Said.the-variants.{Letter as SaidLetter, Limits as SaidLimits, Opened, No}
 use Rattle.sheet.specs.declared.Sheet.{Sheet}
 use Rattle.sheet.specs.declared.Reply.{Reply}
-use Rattle.sheet.proofs.Within.{Within, bounds}
+use Rattle.sheet.proofs.Within.{bounds}
+
+-- What a refusal says is zeros beside its number, whatever the call.
+said-zeros : (w : Said) → (numberOf w ≡ 0 → ⊥) → valuesOf w ≡ 0 ∷ 0 ∷ 0 ∷ 0 ∷ []
+said-zeros (SaidLetter p old new k) n = absurd (n refl)
+said-zeros (SaidLimits l k) n = absurd (n refl)
+said-zeros (Opened k) n = absurd (n refl)
+said-zeros (No k) n = refl
 
 -- The reply by the first fault.
 module _ (faults : List (ℕ × Bool)) (s : Sheet) (accepted : Reply) where
@@ -39,10 +47,10 @@ module _ (faults : List (ℕ × Bool)) (s : Sheet) (accepted : Reply) where
   answer-yes e = simp (eq-eqb _ _ (sym e))
 
   pub call-refused : (k : ℕ) → k ≡ firstFault faults → (k ≡ 0 → ⊥) → (r : Reply) → r ≡ refusing s k → CallReply faults (answered faults s accepted) r
-  call-refused k e n r q = record { whole = q ∙ sym (answer-no k e n); number = ap (λ (x : Reply). numberOf (x .said)) q ∙ e }
+  call-refused k e n r q = record { whole = q ∙ sym (answer-no k e n); number = ap (λ (x : Reply). numberOf (x .said)) q ∙ e; zeros = said-zeros (r .said) }
 
   pub call-accepted : 0 ≡ firstFault faults → (r : Reply) → r ≡ accepted → numberOf (accepted .said) ≡ 0 → CallReply faults (answered faults s accepted) r
-  call-accepted e r q z = record { whole = q ∙ sym (answer-yes e); number = ap (λ (x : Reply). numberOf (x .said)) q ∙ z ∙ e }
+  call-accepted e r q z = record { whole = q ∙ sym (answer-yes e); number = ap (λ (x : Reply). numberOf (x .said)) q ∙ z ∙ e; zeros = said-zeros (r .said) }
 
 -- No edit is said back as a refusal.
 said-accepted : (e : Edit) (s : Sheet) (k : ℕ) → numberOf (saidBy e s k) ≡ 0
@@ -55,7 +63,7 @@ applied-accepted s e st tk = said-accepted e s st
 
 pub changed-accepted : (s : Sheet) (e : Edit) → numberOf (changed s e .said) ≡ 0
 unfolding changed
-changed-accepted s e = applied-accepted s e (s .standing + 1) 0
+changed-accepted s e = said-accepted e s (s .standing + 1)
 
 -- The faults of each call.
 module _ (s : Sheet) (p : ℕ) where
@@ -99,21 +107,25 @@ module _ (s : Sheet) (l : Limits) where
       unfolding firstFault
       limits-0 k = later 0 (simp k)
 
--- Popping: one law for the two lists.
-module _ (many : ℕ) (c : Change) where
-  pub pop-none : many ≡ 0 → popping many c ≡ Nothing
-  pop-none h = simp (eq-eqb _ _ h)
+-- Popping: one law for the two lists, with k the number where there is nothing.
+module _ (k many : ℕ) (c : Change) where
+  pub pop-none : many ≡ 0 → (Nothing ≡ popping many c) × (k ≡ firstFault ((k, eqb many 0) ∷ []))
+  unfolding firstFault
+  pop-none h = let e = eq-eqb _ _ h in (simp e, simp e)
 
-  pub pop-some : (many ≡ 0 → ⊥) → popping many c ≡ PoppedChange c
-  pop-some h = simp (ne-eqb _ _ h)
+  pub pop-some : (many ≡ 0 → ⊥) → (PoppedChange c ≡ popping many c) × (0 ≡ firstFault ((k, eqb many 0) ∷ []))
+  unfolding firstFault
+  pop-some h = let e = ne-eqb _ _ h in (simp e, simp e)
 
-  pub popped-is : (c′ : Change) → popping many c ≡ PoppedChange c′ → (c ≡ c′) × (many ≡ 0 → ⊥)
-  popped-is c′ e = go (eqb many 0) refl
-    where
-      go : (b : Bool) → eqb many 0 ≡ b → (c ≡ c′) × (many ≡ 0 → ⊥)
-      go true h = let z : Nothing ≡ PoppedChange c′ = sym (pop-none (eqb-true many 0 h)) ∙ e in let y : _≡_ {A = ℕ} 0 1 = cc in absurd (omega arith)
-      go false h = let z : PoppedChange c ≡ PoppedChange c′ = sym (pop-some (eqb-false many 0 h)) ∙ e in ((cc), eqb-false many 0 h)
+-- What is popped is the change asked for, and there was one.
+pub popped-is : (many : ℕ) (c c′ : Change) → popping many c ≡ PoppedChange c′ → (c ≡ c′) × (many ≡ 0 → ⊥)
+popped-is many c c′ e = go (eqb many 0) refl
+  where
+    go : (b : Bool) → eqb many 0 ≡ b → (c ≡ c′) × (many ≡ 0 → ⊥)
+    go true h = let z : Nothing ≡ PoppedChange c′ = pop-none 0 many c (eqb-true many 0 h) .0 ∙ e in let y : _≡_ {A = ℕ} 0 1 = cc in absurd (omega arith)
+    go false h = let z : PoppedChange c ≡ PoppedChange c′ = pop-some 0 many c (eqb-false many 0 h) .0 ∙ e in ((cc), eqb-false many 0 h)
 
+-- In bounds take-back and put-again are refused as popping is.
 module _ (s : Sheet) where
   pub back-24 : inBounds s ≡ false → 24 ≡ firstFault (takeBackFaults s)
   unfolding takeBackFaults firstFault
@@ -123,33 +135,19 @@ module _ (s : Sheet) where
   unfolding putAgainFaults firstFault
   again-24 w = simp w
 
-  module _ (w : inBounds s ≡ true) where
-    pub back-8 : popping (s .standing) (newestOf s) ≡ Nothing → 8 ≡ firstFault (takeBackFaults s)
+  module _ (w : inBounds s ≡ true) (k : ℕ) where
+    pub back-number : k ≡ firstFault ((8, eqb (s .standing) 0) ∷ []) → k ≡ firstFault (takeBackFaults s)
     unfolding takeBackFaults firstFault
-    back-8 h = rw (w, h)
+    back-number h = simp w h
 
-    pub back-0 : (c : Change) → popping (s .standing) (newestOf s) ≡ PoppedChange c → 0 ≡ firstFault (takeBackFaults s)
-    unfolding takeBackFaults firstFault
-    back-0 c h = rw (w, h)
-
-    pub again-9 : popping (s .taken) (lastTaken s) ≡ Nothing → 9 ≡ firstFault (putAgainFaults s)
+    pub again-number : k ≡ firstFault ((9, eqb (s .taken) 0) ∷ []) → k ≡ firstFault (putAgainFaults s)
     unfolding putAgainFaults firstFault
-    again-9 h = rw (w, h)
-
-    pub again-0 : (c : Change) → popping (s .taken) (lastTaken s) ≡ PoppedChange c → 0 ≡ firstFault (putAgainFaults s)
-    unfolding putAgainFaults firstFault
-    again-0 c h = rw (w, h)
+    again-number h = simp w h
 
 -- An edit of a letter that is accepted has its place inside.
 pub place-inside : (n p b : ℕ) → accepts n (Letter p b) ≡ true → p < n
 unfolding accepts
 place-inside n p b e = ltb-true p n e
-
--- An edit made and kept is a change.
-pub changed-of : (s : Sheet) (e : Edit) (r : Reply) (c : Change) → r ≡ applied s e (s .standing + 1) 0 → c ≡ replacing s e
-    → record { sheet = keeping (r .sheet) (s .standing) c; said = r .said } ≡ changed s e
-unfolding changed
-changed-of s e r c p q = ap₂ (λ (x : Reply) (y : Change). record { sheet = keeping (x .sheet) (s .standing) y; said = x .said }) p q
 
 pub inside-place : (n p b : ℕ) → p < n → accepts n (Letter p b) ≡ true
 unfolding accepts

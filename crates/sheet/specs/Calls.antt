@@ -18,8 +18,7 @@ use Rattle.changes.specs.declared.Edit.{Edit}
 use Rattle.changes.specs.declared.Edit.the-variants.{Letter as EditLetter, Limits as EditLimits}
 use Rattle.places.specs.Places.{padded}
 use Rattle.sheet.specs.Bounds.{noChange, keptAt, inBounds}
-use Rattle.sheet.specs.declared.Popped.{Popped}
-use Rattle.sheet.specs.declared.Popped.the-variants.{Change as PoppedChange, Nothing}
+use Rattle.sheet.specs.declared.Kept.{Kept}
 use Rattle.sheet.specs.declared.Said.{Said}
 use Rattle.sheet.specs.declared.Said.the-variants.{Letter as SaidLetter, Limits as SaidLimits, Opened, No}
 use Rattle.sheet.specs.declared.Sheet.{Sheet}
@@ -46,10 +45,11 @@ refusing s k = record { sheet = s; said = No k }
 unfoldable pub answered : List (ℕ × Bool) → Sheet → Reply → Reply
 answered faults s accepted = cond (eqb (firstFault faults) 0) accepted (refusing s (firstFault faults))
 
--- The promise of a call: its whole reply, and the number said is the first fault's.
+-- The promise of a call: its whole reply, the number said is the first fault's, and a refusal says zeros beside its number.
 pub record CallReply (faults : List (ℕ × Bool)) (reply r : Reply) : Type 0 where
   pub whole : r ≡ reply
   pub number : numberOf (r .said) ≡ firstFault faults
+  pub zeros : (numberOf (r .said) ≡ 0 → ⊥) → valuesOf (r .said) ≡ 0 ∷ 0 ∷ 0 ∷ 0 ∷ []
 
 -- What an edit makes of letters and limits, and what is said of it: place, letter replaced, letter now there; or the limits in force.
 abbrev pub lettersBy : Edit → List ℕ → List ℕ
@@ -64,53 +64,26 @@ abbrev pub saidBy : Edit → Sheet → ℕ → Said
 saidBy (EditLetter p b) s k = SaidLetter p (getD (s .letters) p 0) b k
 saidBy (EditLimits l) s k = SaidLimits l k
 
--- The sheet with the letter b written at place p.
-abbrev pub withLetter : Sheet → ℕ → ℕ → Sheet
-withLetter s p b =
-    record { letters = set (s .letters) p b; n = s .n; map = s .map; limits = s .limits; kept = s .kept; standing = s .standing; taken = s .taken }
-
--- An edit made, and said back with the number standing; the two counts become st and tk.
-unfoldable pub applied : Sheet → Edit → ℕ → ℕ → Reply
-applied s e st tk =
+-- An edit made, and said back with the number standing; the kept changes become ks, the two counts st and tk.
+abbrev pub editing : Sheet → Edit → List Kept → ℕ → ℕ → Reply
+editing s e ks st tk =
     record {
-      sheet =
-          record {
-            letters = lettersBy e (s .letters);
-            n = s .n;
-            map = s .map;
-            limits = limitsBy e (s .limits);
-            kept = s .kept;
-            standing = st;
-            taken = tk;
-          };
+      sheet = record { letters = lettersBy e (s .letters); n = s .n; map = s .map; limits = limitsBy e (s .limits); kept = ks; standing = st; taken = tk };
       said = saidBy e s st;
     }
+
+-- An edit made over the same kept changes.
+unfoldable pub applied : Sheet → Edit → ℕ → ℕ → Reply
+applied s e st tk = editing s e (s .kept) st tk
 
 -- The change that an edit makes here, with what it replaces.
 unfoldable pub replacing : Sheet → Edit → Change
 replacing s (EditLetter p b) = ChangedLetter p (getD (s .letters) p 0) b
 replacing s (EditLimits l) = ChangedLimits (s .limits) l
 
--- The sheet with the change c kept at place `at`.
-abbrev pub keeping : Sheet → ℕ → Change → Sheet
-keeping s at c =
-    record {
-      letters = s .letters;
-      n = s .n;
-      map = s .map;
-      limits = s .limits;
-      kept = set (s .kept) at (record { what = c });
-      standing = s .standing;
-      taken = s .taken;
-    }
-
 -- An accepted change joins the standing list as its newest and empties the taken-back list.
 unfoldable pub changed : Sheet → Edit → Reply
-changed s e =
-    record {
-      sheet = keeping (applied s e (s .standing + 1) 0 .sheet) (s .standing) (replacing s e);
-      said = applied s e (s .standing + 1) 0 .said;
-    }
+changed s e = editing s e (set (s .kept) (s .standing) (record { what = replacing s e })) (s .standing + 1) 0
 
 -- Every call on a sheet: 24 first. Letter: 6, 7.
 unfoldable pub letterFaults : Sheet → ℕ → List (ℕ × Bool)
@@ -133,37 +106,32 @@ newestOf s = keptAt (s .kept) (s .standing - 1)
 abbrev pub lastTaken : Sheet → Change
 lastTaken s = keptAt (s .kept) (s .standing)
 
--- Popping one of so many changes answers the change, or Nothing where there is none.
-abbrev pub popping : ℕ → Change → Popped
-popping many c = cond (eqb many 0) Nothing (PoppedChange c)
-
--- 01's number of what is popped, k where it is Nothing.
-abbrev pub poppedNumber : ℕ → Popped → ℕ
-poppedNumber k Nothing = k
-poppedNumber k (PoppedChange c) = 0
-
 -- Take-back: 8. It moves the newest standing change over and restores what that replaced.
 unfoldable pub takeBackFaults : Sheet → List (ℕ × Bool)
-takeBackFaults s = (24, not (inBounds s)) ∷ (8, eqb (poppedNumber 8 (popping (s .standing) (newestOf s))) 8) ∷ []
+takeBackFaults s = (24, not (inBounds s)) ∷ (8, eqb (s .standing) 0) ∷ []
 
 abbrev pub takeBackCall : Sheet → Reply
 takeBackCall s = answered (takeBackFaults s) s (applied s (backOf (newestOf s)) (s .standing - 1) (s .taken + 1))
 
 -- Put-again: 9. It moves back the change taken back last, and makes it again.
 unfoldable pub putAgainFaults : Sheet → List (ℕ × Bool)
-putAgainFaults s = (24, not (inBounds s)) ∷ (9, eqb (poppedNumber 9 (popping (s .taken) (lastTaken s))) 9) ∷ []
+putAgainFaults s = (24, not (inBounds s)) ∷ (9, eqb (s .taken) 0) ∷ []
 
 abbrev pub putAgainCall : Sheet → Reply
 putAgainCall s = answered (putAgainFaults s) s (applied s (doneOf (lastTaken s)) (s .standing + 1) (s .taken - 1))
 
--- A sheet with no changes, over letters in their places.
-abbrev pub unchangedOf : List ℕ → ℕ → List ℕ → Limits → Sheet
-unchangedOf x n f l =
-    record { letters = x; n = n; map = f; limits = l; kept = replicate mostChanges noChange; standing = 0; taken = 0 }
-
--- A sheet newly opened with a text and limits.
+-- A sheet newly opened with a text and limits: no changes.
 unfoldable pub opened : Text → Limits → Sheet
-opened x l = unchangedOf (padded (x .letters)) (length (x .letters)) (x .map) l
+opened x l =
+    record {
+      letters = padded (x .letters);
+      n = length (x .letters);
+      map = x .map;
+      limits = l;
+      kept = replicate mostChanges noChange;
+      standing = 0;
+      taken = 0;
+    }
 
 -- The blank sheet: no letters, plain map, kind 1, m 1, g 0, d 0, no changes.
 unfoldable pub blankSheet : Sheet

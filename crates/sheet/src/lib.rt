@@ -10,16 +10,18 @@ use terms::maps;
 use terms::texts;
 ghost use mathlib.Core.Path.{_≡_};
 ghost use mathlib.Core.Bool.{true};
+ghost use mathlib.Core.List.{[], _∷_};
 ghost use Prim.Native.Nat.{_+_, _≤_, _<_};
-ghost use lib.Dec.{leb};
+ghost use lib.Dec.{eqb, leb};
 ghost use Rattle.terms.specs.Sizes.{mostChanges};
 ghost use Rattle.terms.specs.Refusals.{firstFault};
 ghost use Rattle.terms.specs.Maps.{everyBelow};
 ghost use Rattle.terms.specs.Texts.{text, openingFaults};
 ghost use Rattle.changes.specs.Changes.{accepts, acceptsChange};
 ghost use Rattle.sheet.specs.Bounds.{keptAt, inBounds};
-ghost use Rattle.sheet.specs.Calls.{refusing, CallReply, withLetter, applied, replacing, changed, newestOf, lastTaken, popping, letterFaults, limitsCallFaults, takeBackFaults, putAgainFaults, letterCall, limitsCall, takeBackCall, putAgainCall, unchangedOf, blankSheet, openCall};
+ghost use Rattle.sheet.specs.Calls.{refusing, CallReply, applied, replacing, changed, newestOf, lastTaken, letterFaults, limitsCallFaults, takeBackFaults, putAgainFaults, letterCall, limitsCall, takeBackCall, putAgainCall, blankSheet, openCall};
 ghost use Rattle.sheet.specs.Question.{SheetReply};
+ghost use Rattle.sheet.specs.Work.{withLetter, unchangedOf, popping, poppedNumber};
 
 // A change as the sheet keeps it: an array of structs, since a field can be no array of enums.
 pub struct Kept {
@@ -128,7 +130,7 @@ impl Sheet {
     // Pops the newest standing change, if any stands.
     fn newest(self) -> Popped
         requires { ⌜ self .standing ≤ 64 ⌝ }
-        ensures { λ r. ⌜ r ≡ popping (self .standing) (newestOf self) ⌝ }
+        ensures { λ r. ⌜ (r ≡ popping (self .standing) (newestOf self)) × (poppedNumber 8 r ≡ firstFault ((8, eqb (self .standing) 0) ∷ [])) ⌝ }
     {
         let standing = self.standing;
         if standing == 0 {
@@ -142,7 +144,7 @@ impl Sheet {
     // Pops the change that was taken back last, if any was.
     fn last_taken(self) -> Popped
         requires { ⌜ self .standing + self .taken ≤ 64 ⌝ }
-        ensures { λ r. ⌜ r ≡ popping (self .taken) (lastTaken self) ⌝ }
+        ensures { λ r. ⌜ (r ≡ popping (self .taken) (lastTaken self)) × (poppedNumber 9 r ≡ firstFault ((9, eqb (self .taken) 0) ∷ [])) ⌝ }
     {
         let standing = self.standing;
         let taken = self.taken;

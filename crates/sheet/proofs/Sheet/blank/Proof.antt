@@ -5,7 +5,8 @@ use lib.ListN.{replicate}
 use mathlib.Core.List.{List}
 use mathlib.Core.Path.{_≡_, ap, _∙_}
 use Rattle.places.specs.Places.{padded}
-use Rattle.sheet.specs.Calls.{unchangedOf, opened, blankSheet}
+use Rattle.sheet.specs.Calls.{opened, blankSheet}
+use Rattle.sheet.specs.Work.{unchangedOf}
 use Rattle.sheet.proofs.Sheet.blank.Statement.{statement}
 use Rattle.sheet.proofs.Sheet.blank.Tie as tie
 

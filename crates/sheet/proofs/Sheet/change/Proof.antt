@@ -1,6 +1,6 @@
 -- `Sheet::change` meets its contract. Assumes nothing.
 use borrow.Author.Needs.{needs}
-use Rattle.sheet.proofs.Replying.{changed-of}
+use Rattle.sheet.specs.Calls.{applied, changed}
 use Rattle.sheet.proofs.Sheet.change.Statement.{statement}
 use Rattle.sheet.proofs.Sheet.change.Tie as tie
 
@@ -20,7 +20,8 @@ element-set-from-k : tie.Need-element-set-from-k
 element-set-from-k c = search needs
 
 returns : tie.Need-returns
-returns c = changed-of (c .before .before .before .args .self) (c .before .before .before .args .e) (c .before .apply .result) (c .before .before .replaced .result) (c .before .apply .ensures) (c .before .before .replaced .ensures)
+unfolding changed applied
+returns c = rw (c .before .apply .ensures, c .before .before .replaced .ensures)
 
 pub change-spec : {M : Type 1} → statement M
 change-spec =

@@ -1,12 +1,11 @@
 -- `Sheet::newest` meets its contract. Assumes nothing.
 use borrow.Author.Needs.{needs}
-use mathlib.Core.Path.{sym}
 use Rattle.sheet.proofs.Replying.{pop-none, pop-some}
 use Rattle.sheet.proofs.Sheet.newest.Statement.{statement}
 use Rattle.sheet.proofs.Sheet.newest.Tie as tie
 
 returns : tie.Need-returns
-returns c = sym (pop-none _ _ (c .if1 .taken))
+returns c = pop-none 8 _ _ (c .if1 .taken)
 
 sub-k : tie.Need-sub-k
 sub-k c = search needs
@@ -18,7 +17,7 @@ element-copy-out-k : tie.Need-element-copy-out-k
 element-copy-out-k c = search needs
 
 returns-2 : tie.Need-returns-2
-returns-2 c = sym (pop-some _ _ (c .before .if1 .left))
+returns-2 c = pop-some 8 _ _ (c .before .if1 .left)
 
 pub newest-spec : {M : Type 1} → statement M
 newest-spec = tie.close (tie.spec returns sub-k mul-k element-copy-out-k returns-2)

@@ -6,9 +6,10 @@ use mathlib.Core.Path.{_≡_, sym, ap, _∙_}
 use native.Mathlib.Omega.{arith}
 use Rattle.changes.specs.Changes.{accepts}
 use Rattle.changes.specs.declared.Edit.{Edit}
-use Rattle.sheet.proofs.Replying.{call-refused, call-accepted, applied-accepted, popped-is, newest-back, back-24, back-8, back-0, back-is}
+use Rattle.sheet.proofs.Replying.{call-refused, call-accepted, applied-accepted, popped-is, newest-back, back-24, back-number, back-is}
 use Rattle.sheet.proofs.Within.{bounds}
 use Rattle.sheet.specs.Calls.{applied, newestOf}
+use Rattle.sheet.specs.Work.{poppedNumber}
 use Rattle.sheet.proofs.Sheet.take_back.Statement.{statement}
 use Rattle.sheet.proofs.Sheet.take_back.Tie as tie
 
@@ -34,22 +35,22 @@ refused-requires-2 : tie.Need-refused-requires-2
 refused-requires-2 c κs = search needs
 
 returns-2 : tie.Need-returns-2
-returns-2 c = call-refused _ _ _ 8 (back-8 _ (sym (c .before .before .before .before .before .in-bounds .ensures) ∙ not-false _ (c .before .before .before .before .if1 .left)) (sym (c .before .before .before .newest .ensures) ∙ c .before .enum-told .given .1)) (λ e. omega arith) _ (c .refused2 .ensures)
+returns-2 c = call-refused _ _ _ 8 (back-number _ (sym (c .before .before .before .before .before .in-bounds .ensures) ∙ not-false _ (c .before .before .before .before .if1 .left)) 8 (ap (poppedNumber 8) (sym (c .before .enum-told .given .1)) ∙ c .before .before .before .newest .ensures .1)) (λ e. omega arith) _ (c .refused2 .ensures)
 
 back-requires : tie.Need-back-requires
 back-requires c κs = search needs
 
 sub-apply : tie.Need-sub-apply
-sub-apply c = let s = c .before .before .before .before .before .before .before .before .args .self in let z = popped-is (s .standing) (newestOf s) _ (sym (c .before .before .before .before .before .newest .ensures) ∙ c .before .before .before .c .given .1) .1 in omega arith
+sub-apply c = let s = c .before .before .before .before .before .before .before .before .args .self in let z = popped-is (s .standing) (newestOf s) _ (sym (c .before .before .before .before .before .newest .ensures .0) ∙ c .before .before .before .c .given .1) .1 in omega arith
 
 add-apply : tie.Need-add-apply
 add-apply c = omega (arith, bounds _ (sym (c .before .before .before .before .before .before .before .before .in-bounds .ensures) ∙ not-false _ (c .before .before .before .before .before .before .before .if1 .left)) .few)
 
 apply-requires : tie.Need-apply-requires
-apply-requires c κs = let w = sym (c .before .before .before .before .before .before .before .before .in-bounds .ensures) ∙ not-false _ (c .before .before .before .before .before .before .before .if1 .left) in (bounds _ w .letters, ap (accepts _) (c .before .before .back .ensures) ∙ newest-back _ _ w (sym (c .before .before .before .before .before .before .newest .ensures) ∙ c .before .before .before .before .c .given .1))
+apply-requires c κs = let w = sym (c .before .before .before .before .before .before .before .before .in-bounds .ensures) ∙ not-false _ (c .before .before .before .before .before .before .before .if1 .left) in (bounds _ w .letters, ap (accepts _) (c .before .before .back .ensures) ∙ newest-back _ _ w (sym (c .before .before .before .before .before .before .newest .ensures .0) ∙ c .before .before .before .before .c .given .1))
 
 returns-3 : tie.Need-returns-3
-returns-3 c = let s = c .before .before .before .before .before .before .before .before .before .before .args .self in let w = sym (c .before .before .before .before .before .before .before .before .before .in-bounds .ensures) ∙ not-false _ (c .before .before .before .before .before .before .before .before .if1 .left) in let p = sym (c .before .before .before .before .before .before .before .newest .ensures) ∙ c .before .before .before .before .before .c .given .1 in call-accepted _ _ _ (back-0 s w _ p) _ (c .apply .ensures ∙ ap (λ (e : Edit). applied s e (s .standing - 1) (s .taken + 1)) (c .before .before .before .back .ensures ∙ back-is s _ p)) (applied-accepted _ _ _ _)
+returns-3 c = let s = c .before .before .before .before .before .before .before .before .before .before .args .self in let w = sym (c .before .before .before .before .before .before .before .before .before .in-bounds .ensures) ∙ not-false _ (c .before .before .before .before .before .before .before .before .if1 .left) in let o = c .before .before .before .before .before .before .before .newest .ensures in let q = c .before .before .before .before .before .c .given .1 in call-accepted _ _ _ (back-number s w 0 (ap (poppedNumber 8) (sym q) ∙ o .1)) _ (c .apply .ensures ∙ ap (λ (e : Edit). applied s e (s .standing - 1) (s .taken + 1)) (c .before .before .before .back .ensures ∙ back-is s _ (sym (o .0) ∙ q))) (applied-accepted _ _ _ _)
 
 pub take-back-spec : {M : Type 1} → statement M
 take-back-spec =
