@@ -2,30 +2,28 @@
 use mathlib.Core.Path.{_≡_, refl, sym, ap, ap₂, _∙_, subst}
 use mathlib.Core.Bool.{Bool, true, false, cond}
 use mathlib.Core.List.{List, [], _∷_, _++_}
-use mathlib.Core.Logic.{_⊎_, inl, inr}
+use mathlib.Core.Logic.{inl, inr}
 use Prim.Native.Nat.{ℕ, _+_, _-_, _*_, _≤_, _<_}
 use native.Mathlib.Omega.{arith}
-use borrow.Author.Tests.{eq-eqb, ne-eqb, ltb-false}
-use lib.Dec.{T, eqb, ltb}
+use borrow.Author.Tests.{eq-eqb, ne-eqb}
+use lib.Dec.{ltb}
 use lib.ListN.{length, take, drop, length-append, length-drop}
 use lib.Seq.{take-all}
-use Rattle.terms.specs.Refusals.{firstFault}
 use Rattle.terms.specs.Texts.{Text, text}
 use Rattle.terms.specs.declared.limits.Limits.{Limits}
-use Rattle.tilings.specs.Tilings.{Part, Given, None, gaps, total}
+use Rattle.tilings.specs.Tilings.{Part, Given, gaps, total}
 use Rattle.boards.specs.Pieces.{board}
 use Rattle.records.specs.Records.{recordSize, recordsFrom}
 use Rattle.records.proofs.Sizes.{records-length}
-use Rattle.questions.specs.Tiling.{tableFaults, refusal, figures, roomRefusal, handing, HandsOver, Refused, Answered, TilingReply}
+use Rattle.questions.specs.Tiling.{refusal, figures, roomRefusal, handing, HandsOver}
 use Rattle.questions.specs.declared.Answer.{Answer}
-use Rattle.sheet.specs.Bounds.{textOf, inBounds}
+use Rattle.sheet.specs.Bounds.{textOf}
 use Rattle.sheet.specs.Calls.{numberOf, openCall}
 use Rattle.sheet.specs.Question.{SheetReply}
 use Rattle.sheet.specs.declared.Said.{Said}
 use Rattle.sheet.specs.declared.Sheet.{Sheet}
 use Rattle.sheet.specs.declared.Reply.{Reply}
 use Rattle.printing.specs.Printing.{printed, Put}
-use Rattle.printing.proofs.Laws.{and-then}
 use Rattle.lines.specs.Lines.{Reads}
 use Rattle.lines.specs.declared.Line.{Line}
 use Rattle.lines.specs.declared.Line.the-variants.{Open, Question}

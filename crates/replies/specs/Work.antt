@@ -1,7 +1,7 @@
 -- Working notions: the part lines as they are read off the records. No promise to a caller rests on reading them.
 use mathlib.Core.List.{List, [], _∷_, _++_}
 use Prim.Native.Nat.{ℕ, zero, suc, _+_, _*_}
-use lib.ListN.{getD, drop}
+use lib.ListN.{getD}
 use Rattle.records.specs.Records.{recordSize}
 use Rattle.printing.specs.Printing.{printed}
 

@@ -1,5 +1,4 @@
 -- `put_said` meets its contract. Assumes nothing.
-use Rattle.printing.proofs.Laws.{put-length}
 use borrow.Author.Needs.{needs}
 use Rattle.replies.proofs.put_said.Statement.{statement}
 use Rattle.replies.proofs.put_said.Tie as tie

@@ -2,7 +2,6 @@
 use mathlib.Core.Path.{ap}
 use mathlib.Core.Bool.{false}
 use Rattle.sheet.specs.declared.Sheet.{Sheet}
-use Rattle.desk.specs.declared.Desk.{Desk}
 use borrow.Author.Needs.{needs}
 use Rattle.desk.proofs.Desk.new.Statement.{statement}
 use Rattle.desk.proofs.Desk.new.Tie as tie

@@ -3,7 +3,7 @@ use Prim.Native.Nat.{ℕ}
 use borrow.Author.Needs.{needs}
 use lib.ListN.{replicate}
 use mathlib.Core.List.{List}
-use mathlib.Core.Path.{_≡_, ap, _∙_}
+use mathlib.Core.Path.{ap, _∙_}
 use Rattle.places.specs.Places.{padded}
 use Rattle.sheet.specs.Calls.{opened, blankSheet}
 use Rattle.sheet.specs.Work.{unchangedOf}

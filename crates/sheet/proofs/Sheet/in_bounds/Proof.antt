@@ -1,6 +1,6 @@
 -- `Sheet::in_bounds` meets its contract: each test that fails breaks the bounds, else they come down to the kept changes. Assumes nothing.
 use borrow.Author.Needs.{needs}
-use mathlib.Core.Path.{_≡_, sym, _∙_}
+use mathlib.Core.Path.{sym, _∙_}
 use native.Mathlib.Omega.{arith}
 use Rattle.sheet.proofs.Within.{out-letters, out-map, out-limits, out-count, within}
 use Rattle.sheet.proofs.Sheet.in_bounds.Statement.{statement}

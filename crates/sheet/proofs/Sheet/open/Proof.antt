@@ -3,7 +3,7 @@ use borrow.Author.Needs.{needs}
 use mathlib.Core.Path.{sym, ap, _∙_}
 use Rattle.terms.proofs.Passed.{sound-opening}
 use Rattle.terms.specs.Texts.{text}
-use Rattle.sheet.proofs.Replying.{call-refused, call-accepted, open-reply}
+use Rattle.sheet.proofs.Replying.{call-refused, open-reply}
 use Rattle.sheet.specs.Calls.{refusing}
 use Rattle.sheet.specs.declared.Sheet.{Sheet}
 use Rattle.sheet.proofs.Sheet.open.Statement.{statement}
