@@ -4,19 +4,19 @@ use mathlib.Core.Bool.{true}
 use mathlib.Core.List.{List}
 use Prim.Native.Nat.{ℕ, _<_}
 use native.Mathlib.Omega.{arith}
-use borrow.Author.Tests.{lt-ltb, ltb-true, eqb-true, eq-eqb}
+use borrow.Author.Tests.{eqb-true, eq-eqb}
 use lib.ListN.{getD, set, length-set}
 use lib.Seq.{getD-set-same, set-set, set-getD}
 use Rattle.terms.specs.Refusals.{firstFault}
 use Rattle.terms.specs.Limits.{limitsFaults}
 use Rattle.terms.specs.Texts.{text, size}
-use Rattle.terms.specs.declared.limits.Limits.{Limits as LimitsOf}
 use Rattle.terms.proofs.Below.{and-yes}
 use Rattle.changes.specs.Changes.{doneOf, backOf, accepts, acceptsChange}
 use Rattle.changes.specs.declared.Edit.{Edit}
 use Rattle.changes.specs.declared.Edit.the-variants.{Letter, Limits}
 use Rattle.sheet.specs.Calls.{limitsBy, applied, replacing}
 use Rattle.sheet.specs.declared.Sheet.{Sheet}
+use Rattle.sheet.proofs.Replying.{place-inside}
 use Rattle.history.specs.History.{Content, make, back, sayBack}
 use Rattle.history.proofs.Padding.{padded-set, Holds, letter-at}
 
@@ -27,24 +27,12 @@ make-back c (Letter p b) =
     (set-set (c .text .letters) p b (getD (c .text .letters) p 0) ∙ set-getD (c .text .letters) p 0)
 make-back c (Limits l) = refl
 
-place-is : (n p b : ℕ) → accepts n (Letter p b) ≡ true → p < n
-unfolding accepts
-place-is n p b a = ltb-true p n a
-
-pub letter-accepted : (n p b : ℕ) → p < n → accepts n (Letter p b) ≡ true
-unfolding accepts
-letter-accepted n p b h = lt-ltb p n h
-
-pub limits-accepted : (n : ℕ) (l : LimitsOf) → firstFault (limitsFaults l) ≡ 0 → accepts n (Limits l) ≡ true
-unfolding accepts
-limits-accepted n l e = eq-eqb _ _ e
-
 -- on a sheet that holds a content: an edit made of the one is made of the other, what is said is so, and what takes it back is kept
 module _ {s : Sheet} {c : Content} (H : Holds s c) where
   pub applied-holds : (e : Edit) (st tk : ℕ) → accepts (s .n) e ≡ true → Holds (applied s e st tk .sheet) (make e c)
   unfolding applied
   applied-holds (Letter p b) st tk a =
-      let h : p < s .n = place-is (s .n) p b a in
+      let h : p < s .n = place-inside (s .n) p b a in
       let n : s .n ≡ size (c .text) = H .n in
       record {
         letters = ap (λ (x : List ℕ). set x p b) (H .letters) ∙ padded-set (c .text .letters) p (omega arith) b;
@@ -57,7 +45,7 @@ module _ {s : Sheet} {c : Content} (H : Holds s c) where
   pub applied-says : (e : Edit) (st tk : ℕ) → accepts (s .n) e ≡ true → applied s e st tk .said ≡ sayBack e c (make e c) st
   unfolding applied
   applied-says (Letter p b) st tk a =
-      let h : p < s .n = place-is (s .n) p b a in
+      let h : p < s .n = place-inside (s .n) p b a in
       let n : s .n ≡ size (c .text) = H .n in
       let old : getD (s .letters) p 0 ≡ getD (c .text .letters) p 0 = letter-at H p h in
       let new : getD (set (c .text .letters) p b) p 0 ≡ b = getD-set-same (c .text .letters) p b 0 (omega arith) in
@@ -66,7 +54,7 @@ module _ {s : Sheet} {c : Content} (H : Holds s c) where
 
   pub replacing-back : (e : Edit) → accepts (s .n) e ≡ true → backOf (replacing s e) ≡ back c e
   unfolding replacing
-  replacing-back (Letter p b) a = ap (Letter p) (letter-at H p (place-is (s .n) p b a))
+  replacing-back (Letter p b) a = ap (Letter p) (letter-at H p (place-inside (s .n) p b a))
   replacing-back (Limits l) a = ap Limits (H .limits)
 
 pub replacing-done : (s : Sheet) (e : Edit) → doneOf (replacing s e) ≡ e

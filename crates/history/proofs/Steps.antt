@@ -22,11 +22,11 @@ use Rattle.sheet.specs.Calls.{refusing, answered, applied, changed, letterFault
 use Rattle.sheet.specs.declared.Reply.{Reply}
 use Rattle.sheet.specs.declared.Said.{Said}
 use Rattle.sheet.specs.declared.Sheet.{Sheet}
-use Rattle.sheet.proofs.Replying.{answer-no, answer-yes, pop-none, pop-some, back-number, again-number}
+use Rattle.sheet.proofs.Replying.{answer-no, answer-yes, pop-none, pop-some, back-number, again-number, inside-place, limits-accepted}
 use Rattle.history.specs.History.{Content, History, Request, letter, limits, takeBack, putAgain, make, back, made, current, moved, accept, refuse, decide, full, reckon}
 use Rattle.history.specs.Runs.{standingFrom, standingOf, perform}
 use Rattle.history.proofs.Lists.{standing-length}
-use Rattle.history.proofs.Edits.{make-back, letter-accepted, limits-accepted}
+use Rattle.history.proofs.Edits.{make-back}
 use Rattle.history.proofs.Bounded.{done-accepted, back-accepted}
 use Rattle.history.proofs.Invariant.{historyOf, Invariant, Agrees, moved-agrees, changed-agrees}
 use Rattle.history.proofs.Faults.{clear}
@@ -122,7 +122,7 @@ module _ {o : Content} {s : Sheet} (S : Invariant o s) where
       let t = clear 5 _ ((7, full (historyOf o s)) ∷ []) e in
       let n : s .n ≡ size (content .text) = S .holds .n in
       let h : p < size (content .text) = leb-false _ _ (t .0) in
-      (letter-accepted (s .n) p b (omega arith), few (t .1)))
+      (inside-place (s .n) p b (omega arith), few (t .1)))
   step (limits l) =
       decided (EditLimits l) _ _ (limits-faults l)
       (λ e. let t = fault-none (limitsFaults l) _ (limits-numbered l) e in (limits-accepted (s .n) l (t .0), few (t .1)))
