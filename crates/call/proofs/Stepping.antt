@@ -22,7 +22,7 @@ use Rattle.desk.specs.Desk.{Does, DeskReply}
 use Rattle.desk.specs.declared.Desk.{Desk}
 use Rattle.desk.specs.declared.Turn.{Turn}
 use Rattle.call.specs.declared.Progress.{Progress}
-use Rattle.call.specs.Steps.{lineNow, Ended, Unended, Stepped, Stepping, Answered, Answers, Reading, Finished, Finishing}
+use Rattle.call.specs.Steps.{lineNow, Ended, Unended, Stepped, Stepping, State, state, Answered, Answers, Reading, Finished, Finishing}
 
 pub kept-none : (room : List ℕ) → Kept room 0 []
 kept-none room = record { many = omega arith; bytes = sym (take-nil (length room)) }
@@ -99,37 +99,43 @@ module _ (bytes bytes′ : List ℕ) (at : ℕ) (piece : List ℕ) (from : ℕ) 
         }
 
 -- one line more
-answers-more : (d e f : Desk) (lines : List (List ℕ)) (line : List ℕ) → Answers d lines e → Answered e line f → Answers d (lines ++ (line ∷ [])) f
-answers-more d e f [] line a p = (f, subst (λ (z : Desk). Answered z line f) a p, refl)
-answers-more d e f (l ∷ lines) line a p = (a .0, a .1, answers-more (a .0) e f lines line (a .2) p)
+answers-more : (a b c : State) (lines : List (List ℕ)) (line : List ℕ) → Answers a lines b → Answered b line c → Answers a (lines ++ (line ∷ [])) c
+answers-more a b c [] line e p = (c, subst (λ (z : State). Answered z line c) e p, refl)
+answers-more a b c (l ∷ lines) line q p = (q .0, q .1, answers-more (q .0) b c lines line (q .2) p)
 
 -- So far in a piece: whatever line the bytes kept at its start are of, some lines are answered, and those kept now are of one with the same lines left.
-pub record Sofar (d : Desk) (piece bytes : List ℕ) (at from : ℕ) (desk : Desk) (line : List ℕ) : Type 0 where
+pub record Sofar (s₀ : State) (piece bytes : List ℕ) (at from : ℕ) (s : State) (line : List ℕ) : Type 0 where
   pub now : List ℕ
   pub kept : Kept bytes at now
   pub last : lastLine now (drop from piece) ≡ lastLine line piece
   pub done : List (List ℕ)
-  pub answers : Answers d done desk
+  pub answers : Answers s₀ done s
   pub lines : done ++ wholeLines now (drop from piece) ≡ wholeLines line piece
 
-abbrev pub Onward : Desk → List ℕ → ℕ → List ℕ → List ℕ → ℕ → ℕ → Desk → Type 0
-Onward d bytes₀ at₀ piece bytes at from desk = (line : List ℕ) → Kept bytes₀ at₀ line → Sofar d piece bytes at from desk line
+abbrev pub Onward : State → List ℕ → ℕ → List ℕ → List ℕ → ℕ → ℕ → State → Type 0
+Onward s₀ bytes₀ at₀ piece bytes at from s = (line : List ℕ) → Kept bytes₀ at₀ line → Sofar s₀ piece bytes at from s line
 
-pub onward-start : (d : Desk) (bytes : List ℕ) (at : ℕ) (piece : List ℕ) → Onward d bytes at piece bytes at 0 d
-onward-start d bytes at piece line k = record { now = line; kept = k; last = refl; done = []; answers = refl; lines = refl }
+pub onward-start : (s : State) (bytes : List ℕ) (at : ℕ) (piece : List ℕ) → Onward s bytes at piece bytes at 0 s
+onward-start s bytes at piece line k = record { now = line; kept = k; last = refl; done = []; answers = refl; lines = refl }
 
-pub onward-next : (d desk : Desk) (bytes₀ : List ℕ) (at₀ : ℕ) (piece bytes : List ℕ) (at from : ℕ) (bytes′ table table′ room room′ out out′ : List ℕ) (r : Progress)
-    → Onward d bytes₀ at₀ piece bytes at from desk → Stepping desk bytes bytes′ at piece from table table′ room room′ out out′ r
-    → Onward d bytes₀ at₀ piece bytes′ (r .at) (r .from) (r .desk)
-onward-next d desk bytes₀ at₀ piece bytes at from bytes′ table table′ room room′ out out′ r o s line k = go (ends (drop from piece)) refl
+pub onward-next : (s₀ : State) (desk : Desk) (bytes₀ : List ℕ) (at₀ : ℕ) (piece bytes : List ℕ) (at from : ℕ) (bytes′ table table′ room room′ out out′ : List ℕ) (r : Progress)
+    → Onward s₀ bytes₀ at₀ piece bytes at from (state desk table room out) → Stepping desk bytes bytes′ at piece from table table′ room room′ out out′ r
+    → Onward s₀ bytes₀ at₀ piece bytes′ (r .at) (r .from) (state (r .desk) table′ room′ out′)
+onward-next s₀ desk bytes₀ at₀ piece bytes at from bytes′ table table′ room room′ out out′ r o s line k = go (ends (drop from piece)) refl
   where
-    was : Sofar d piece bytes at from desk line
+    before : State
+    before = state desk table room out
+
+    after : State
+    after = state (r .desk) table′ room′ out′
+
+    was : Sofar s₀ piece bytes at from before line
     was = o line k
 
     this : List ℕ
     this = lineNow (was .now) piece from
 
-    go : (t : Bool) → ends (drop from piece) ≡ t → Sofar d piece bytes′ (r .at) (r .from) (r .desk) line
+    go : (t : Bool) → ends (drop from piece) ≡ t → Sofar s₀ piece bytes′ (r .at) (r .from) after line
     go true e =
         let q = s (was .now) (was .kept) .ended e in
         record {
@@ -137,27 +143,28 @@ onward-next d desk bytes₀ at₀ piece bytes at from bytes′ table table′ ro
           kept = q .kept;
           last = sym (q .last) ∙ was .last;
           done = was .done ++ (this ∷ []);
-          answers = answers-more d desk (r .desk) (was .done) this (was .answers) (record { table = table; table′ = table′; room = room; room′ = room′; out = out; out′ = out′; written = r .written; reply = q .reply });
+          answers = answers-more s₀ before after (was .done) this (was .answers) (record { written = r .written; reply = q .reply });
           lines = append-assoc (was .done) (this ∷ []) (wholeLines [] (drop (r .from) piece)) ∙ ap (λ (z : List (List ℕ)). was .done ++ z) (sym (q .first)) ∙ was .lines;
         }
     go false e =
         let q = s (was .now) (was .kept) .unended e in
+        let same : before ≡ after = rw (q .desk, q .stays .0, q .stays .1, q .stays .2) refl in
         record {
           now = this;
           kept = q .kept;
           last = ap (lastLine this) (q .done) ∙ sym (q .last) ∙ was .last;
           done = was .done;
-          answers = subst (Answers d (was .done)) (sym (q .desk)) (was .answers);
+          answers = subst (Answers s₀ (was .done)) same (was .answers);
           lines = ap (λ (z : List ℕ). was .done ++ wholeLines this z) (q .done) ∙ ap (λ (z : List (List ℕ)). was .done ++ z) (sym (q .none)) ∙ was .lines;
         }
 
-pub onward-end : (d desk : Desk) (bytes₀ : List ℕ) (at₀ : ℕ) (piece bytes : List ℕ) (at from : ℕ) → Onward d bytes₀ at₀ piece bytes at from desk → length piece ≤ from
-    → (line : List ℕ) → Kept bytes₀ at₀ line → Kept bytes at (lastLine line piece) × Answers d (wholeLines line piece) desk
-onward-end d desk bytes₀ at₀ piece bytes at from o h line k =
+pub onward-end : (s₀ s : State) (bytes₀ : List ℕ) (at₀ : ℕ) (piece bytes : List ℕ) (at from : ℕ) → Onward s₀ bytes₀ at₀ piece bytes at from s → length piece ≤ from
+    → (line : List ℕ) → Kept bytes₀ at₀ line → Kept bytes at (lastLine line piece) × Answers s₀ (wholeLines line piece) s
+onward-end s₀ s bytes₀ at₀ piece bytes at from o h line k =
     let q = o line k in
     let e : drop from piece ≡ [] = drop-of-length-le piece {i = from} h in
     let all : q .done ≡ wholeLines line piece = sym (append-nil (q .done)) ∙ ap (λ (z : List ℕ). q .done ++ wholeLines (q .now) z) (sym e) ∙ q .lines in
-    (subst (Kept bytes at) (ap (lastLine (q .now)) (sym e) ∙ q .last) (q .kept), subst (λ (z : List (List ℕ)). Answers d z desk) all (q .answers))
+    (subst (Kept bytes at) (ap (lastLine (q .now)) (sym e) ∙ q .last) (q .kept), subst (λ (z : List (List ℕ)). Answers s₀ z s) all (q .answers))
 
 -- a line of which no byte is kept is empty
 no-bytes : (room : List ℕ) (line : List ℕ) → length room ≡ 1041 → Kept room 0 line → line ≡ []

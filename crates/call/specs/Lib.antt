@@ -1,2 +1,3 @@
 -- The call program below its reads and writes.
 pub mod Steps
+pub mod Rooms

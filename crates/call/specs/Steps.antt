@@ -44,26 +44,33 @@ abbrev pub Stepping : Desk → List ℕ → List ℕ → ℕ → List ℕ → �
 Stepping d bytes bytes′ at piece from table table′ room room′ out out′ r =
     (line : List ℕ) → Kept bytes at line → Stepped d line bytes′ piece from table table′ room room′ out out′ r
 
--- One line answered: the desk before and after.
-pub record Answered (d : Desk) (line : List ℕ) (d′ : Desk) : Type 0 where
+-- The desk, and the table, the room and `out` that are lent with it.
+pub record State : Type 0 where
+  pub desk : Desk
   pub table : List ℕ
-  pub table′ : List ℕ
   pub room : List ℕ
-  pub room′ : List ℕ
   pub out : List ℕ
-  pub out′ : List ℕ
+
+-- A state from its four parts.
+abbrev pub state : Desk → List ℕ → List ℕ → List ℕ → State
+state d table room out = record { desk = d; table = table; room = room; out = out }
+
+-- One line answered: desk, table, room and `out` before and after.
+pub record Answered (s : State) (line : List ℕ) (s′ : State) : Type 0 where
   pub written : ℕ
-  pub reply : DeskReply d line table table′ room room′ out out′ (record { desk = d′; written = written })
+  pub reply : DeskReply (s .desk) line (s .table) (s′ .table) (s .room) (s′ .room) (s .out) (s′ .out) (record { desk = s′ .desk; written = written })
 
--- Lines answered one after the other, each at the desk that the one before left.
-abbrev pub Answers : Desk → List (List ℕ) → Desk → Type 0
-Answers d [] d′ = d′ ≡ d
-Answers d (line ∷ lines) d′ = (e : Desk) × Answered d line e × Answers e lines d′
+-- Lines answered one after the other, each with the desk, table, room and `out` that the one before left.
+abbrev pub Answers : State → List (List ℕ) → State → Type 0
+Answers s [] s′ = s′ ≡ s
+Answers s (line ∷ lines) s′ = (next : State) × Answered s line next × Answers next lines s′
 
--- A whole piece: its lines are answered one after the other, and what is kept afterwards is of the bytes behind its last line end.
-abbrev pub Reading : Desk → List ℕ → List ℕ → ℕ → List ℕ → Between → Type 0
-Reading d bytes bytes′ at piece r =
-    (line : List ℕ) → Kept bytes at line → Kept bytes′ (r .at) (lastLine line piece) × Answers d (wholeLines line piece) (r .desk)
+-- A whole piece: its lines are answered one after the other, with table, room and `out` as lent and as left,
+-- and what is kept afterwards is of the bytes behind its last line end.
+abbrev pub Reading : Desk → List ℕ → List ℕ → ℕ → List ℕ → List ℕ → List ℕ → List ℕ → List ℕ → List ℕ → List ℕ → Between → Type 0
+Reading d bytes bytes′ at piece table table′ room room′ out out′ r =
+    (line : List ℕ) → Kept bytes at line
+    → Kept bytes′ (r .at) (lastLine line piece) × Answers (state d table room out) (wholeLines line piece) (state (r .desk) table′ room′ out′)
 
 -- The end of the input: the line that has no line end is answered if it isn't empty; else nothing is answered or touched.
 pub record Finished (d : Desk) (line table table′ room room′ out out′ : List ℕ) (r : Turn) : Type 0 where

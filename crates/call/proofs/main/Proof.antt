@@ -7,7 +7,7 @@ use Rattle.call.proofs.main.Statement.{statement}
 use Rattle.call.proofs.main.Tie as tie
 
 abbrev Inv-loop : tie.InvT-loop
-Inv-loop bytes₀ piece₀ table₀ room₀ out₀ b₀ more₀ reads₀ bytes piece table room out b more reads = (length bytes ≡ 1041) × (length piece ≡ 65536) × (length table ≡ 16016) × (length room ≡ 6000) × (length out ≡ 65536) × (b .at ≤ 1041)
+Inv-loop bytes₀ piece₀ table₀ room₀ out₀ b₀ more₀ reads₀ bytes piece table room out b more reads = (length bytes ≡ length bytes₀) × (length piece ≡ length piece₀) × (length table ≡ length table₀) × (length room ≡ length room₀) × (length out ≡ length out₀) × (b .at ≤ 1041)
 
 abbrev μ-loop : tie.MeasureT-loop
 μ-loop bytes₀ piece₀ table₀ room₀ out₀ b₀ more₀ reads₀ bytes piece table room out b more reads = reads
