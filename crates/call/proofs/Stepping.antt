@@ -2,14 +2,13 @@
 use mathlib.Core.Path.{_≡_, refl, sym, ap, _∙_, subst}
 use mathlib.Core.Bool.{Bool, true, false}
 use mathlib.Core.List.{List, [], _∷_, _++_, append-assoc, append-nil}
-use Prim.Native.Nat.{ℕ, _+_, _-_, _≤_, _<_, min}
+use Prim.Native.Nat.{ℕ, _+_, _-_, _≤_, _<_}
 use native.Mathlib.Omega.{arith}
 use native.Mathlib.Decide.{decLe}
 use borrow.Author.Tests.{ltb-true, ltb-false}
 use lib.Dec.{T}
-use lib.ListN.{length, take, drop, length-drop, length-take, drop-of-length-le}
+use lib.ListN.{length, take, drop, length-drop, drop-of-length-le}
 use lib.Seq.{take-all, take-nil, length-take-le}
-use Rattle.lines.specs.Lines.{Reads}
 use Rattle.lines.specs.declared.Line.the-variants.{Unknown}
 use Rattle.lines.specs.declared.Line.{Line}
 use Rattle.lines.proofs.Reading.{too-long, one-reading}
@@ -22,7 +21,7 @@ use Rattle.desk.specs.Desk.{Does, DeskReply}
 use Rattle.desk.specs.declared.Desk.{Desk}
 use Rattle.desk.specs.declared.Turn.{Turn}
 use Rattle.call.specs.declared.Progress.{Progress}
-use Rattle.call.specs.Steps.{lineNow, Ended, Unended, Stepped, Stepping, State, state, Answered, Answers, Reading, Finished, Finishing}
+use Rattle.call.specs.Steps.{lineNow, Stepping, State, state, Answered, Answers, Finishing}
 
 pub kept-none : (room : List ℕ) → Kept room 0 []
 kept-none room = record { many = omega arith; bytes = sym (take-nil (length room)) }
