@@ -12,8 +12,8 @@ use lib.Seq.{take-all, take-nil, length-take-le}
 use Rattle.lines.specs.declared.Line.the-variants.{Unknown}
 use Rattle.lines.specs.declared.Line.{Line}
 use Rattle.lines.proofs.Reading.{too-long, one-reading}
-use Rattle.feed.specs.Lines.{wholeLines, lastLine}
-use Rattle.feed.specs.Feeding.{upToEnd, ends, Kept, Feeds, TakesOn}
+use Rattle.feed.specs.Lines.{wholeLines, lastLine, Kept}
+use Rattle.feed.specs.Feeding.{upToEnd, ends, Feeds, TakesOn}
 use Rattle.feed.specs.declared.Fed.{Fed}
 use Rattle.feed.proofs.Ends.{within}
 use Rattle.feed.proofs.Pieces.{feeding}
@@ -21,7 +21,8 @@ use Rattle.desk.specs.Desk.{Does, DeskReply}
 use Rattle.desk.specs.declared.Desk.{Desk}
 use Rattle.desk.specs.declared.Turn.{Turn}
 use Rattle.call.specs.declared.Progress.{Progress}
-use Rattle.call.specs.Steps.{lineNow, Stepping, State, state, Answered, Answers, Finishing}
+use Rattle.call.specs.Steps.{State, state, Answered, Answers, Finishing}
+use Rattle.call.specs.Work.{lineNow, Stepping}
 
 pub kept-none : (room : List ℕ) → Kept room 0 []
 kept-none room = record { many = omega arith; bytes = sym (take-nil (length room)) }

@@ -1,48 +1,12 @@
--- One step of the call program: a line is taken on from a piece of the input, and answered where it ends.
+-- Lines answered one after the other, from a piece of the input and at its end (01, "The call program").
 use mathlib.Core.Path.{_≡_}
-use mathlib.Core.Bool.{true, false}
-use mathlib.Core.List.{List, [], _∷_, _++_}
+use mathlib.Core.List.{List, [], _∷_}
 use Prim.Native.Nat.{ℕ}
-use lib.ListN.{drop}
-use Rattle.feed.specs.Lines.{wholeLines, lastLine}
-use Rattle.feed.specs.Feeding.{upToEnd, ends, Kept}
+use Rattle.feed.specs.Lines.{wholeLines, lastLine, Kept}
 use Rattle.desk.specs.Desk.{DeskReply}
 use Rattle.desk.specs.declared.Desk.{Desk}
 use Rattle.desk.specs.declared.Turn.{Turn}
-use Rattle.call.specs.declared.Progress.{Progress}
 use Rattle.call.specs.declared.Between.{Between}
-
--- The line as it stands after the step.
-abbrev pub lineNow : List ℕ → List ℕ → ℕ → List ℕ
-lineNow line piece from = line ++ upToEnd (drop from piece)
-
--- A line end is reached: the whole line, which is the first of those left of the piece, is answered as the desk answers it, however long it is;
--- the next line begins empty, behind the line end.
-pub record Ended (d : Desk) (line bytes′ piece : List ℕ) (from : ℕ) (table table′ room room′ out out′ : List ℕ) (r : Progress) : Type 0 where
-  pub first : wholeLines line (drop from piece) ≡ lineNow line piece from ∷ wholeLines [] (drop (r .from) piece)
-  pub last : lastLine line (drop from piece) ≡ lastLine [] (drop (r .from) piece)
-  pub reply : DeskReply d (lineNow line piece from) table table′ room room′ out out′ (record { desk = r .desk; written = r .written })
-  pub kept : Kept bytes′ (r .at) []
-
--- None is reached: no line is left of the piece, nothing is answered or touched, and the line's bytes are kept.
-pub record Unended (d : Desk) (line bytes′ piece : List ℕ) (from : ℕ) (table table′ room room′ out out′ : List ℕ) (r : Progress) : Type 0 where
-  pub none : wholeLines line (drop from piece) ≡ []
-  pub last : lastLine line (drop from piece) ≡ lineNow line piece from
-  pub done : drop (r .from) piece ≡ []
-  pub desk : r .desk ≡ d
-  pub silent : r .written ≡ 0
-  pub stays : (table′ ≡ table) × (room′ ≡ room) × (out′ ≡ out)
-  pub kept : Kept bytes′ (r .at) (lineNow line piece from)
-
--- A step from place `from` of a piece, where the bytes of `line` came before: table, room and `out` as lent and as left, the bytes kept as left.
-pub record Stepped (d : Desk) (line bytes′ piece : List ℕ) (from : ℕ) (table table′ room room′ out out′ : List ℕ) (r : Progress) : Type 0 where
-  pub ended : ends (drop from piece) ≡ true → Ended d line bytes′ piece from table table′ room room′ out out′ r
-  pub unended : ends (drop from piece) ≡ false → Unended d line bytes′ piece from table table′ room room′ out out′ r
-
--- A step, whatever line the bytes kept are of.
-abbrev pub Stepping : Desk → List ℕ → List ℕ → ℕ → List ℕ → ℕ → List ℕ → List ℕ → List ℕ → List ℕ → List ℕ → List ℕ → Progress → Type 0
-Stepping d bytes bytes′ at piece from table table′ room room′ out out′ r =
-    (line : List ℕ) → Kept bytes at line → Stepped d line bytes′ piece from table table′ room room′ out out′ r
 
 -- The desk, and the table, the room and `out` that are lent with it.
 pub record State : Type 0 where

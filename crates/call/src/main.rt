@@ -5,7 +5,8 @@ use feed::feed;
 ghost use mathlib.Core.Path.{_≡_};
 ghost use Prim.Native.Nat.{_≤_, _<_};
 ghost use lib.ListN.{length};
-ghost use Rattle.call.specs.Steps.{Stepping, Reading, Finishing};
+ghost use Rattle.call.specs.Steps.{Reading, Finishing};
+ghost use Rattle.call.specs.Work.{Stepping};
 
 // The most bytes kept of a line: one more than a line may have, so that a line too long is seen to be so.
 const LINE: usize = 1041;

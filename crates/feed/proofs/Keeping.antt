@@ -11,7 +11,8 @@ use lib.Seq.{take-all, take-suc-set, take-append-le, append-snoc}
 use borrow.Author.Tests.{lt-ltb, le-ltb}
 use Rattle.printing.specs.Printing.{Put}
 use Rattle.printing.proofs.Laws.{sets-past}
-use Rattle.feed.specs.Feeding.{upToEnd, ends, Kept, TakesOn}
+use Rattle.feed.specs.Lines.{Kept}
+use Rattle.feed.specs.Feeding.{upToEnd, ends, TakesOn}
 use Rattle.feed.proofs.Ends.{front}
 
 -- one byte more, where there is a place for it

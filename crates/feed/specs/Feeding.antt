@@ -1,11 +1,11 @@
--- Taking in a line from pieces of the input: where it ends, and what is kept of it.
+-- Working notions: a line taken in from pieces of the input, where it ends and what is kept of it. No promise of the whole rests on reading them.
 use mathlib.Core.Path.{_≡_}
 use mathlib.Core.Bool.{Bool, cond}
 use mathlib.Core.List.{List, [], _∷_, _++_}
-use Prim.Native.Nat.{ℕ, _+_, min}
+use Prim.Native.Nat.{ℕ, _+_}
 use lib.Dec.{eqb, ltb}
-use lib.ListN.{length, take, drop}
-use Rattle.feed.specs.Lines.{lineEnd}
+use lib.ListN.{length, drop}
+use Rattle.feed.specs.Lines.{lineEnd, Kept}
 use Rattle.feed.specs.declared.Fed.{Fed}
 
 -- The bytes before the first line end, all where there is none.
@@ -16,11 +16,6 @@ upToEnd (b ∷ bs) = cond (eqb b lineEnd) [] (b ∷ upToEnd bs)
 -- There is a line end.
 abbrev pub ends : List ℕ → Bool
 ends bs = ltb (length (upToEnd bs)) (length bs)
-
--- The room keeps the first bytes of a line, as many as it has places for: `at` of them.
-pub record Kept (room : List ℕ) (at : ℕ) (line : List ℕ) : Type 0 where
-  pub many : at ≡ min (length line) (length room)
-  pub bytes : take at room ≡ take (length room) line
 
 -- The line is taken on from place `from` of a piece to its next line end, or to the piece's end.
 pub record Feeds (line piece : List ℕ) (from : ℕ) (room′ : List ℕ) (r : Fed) : Type 0 where

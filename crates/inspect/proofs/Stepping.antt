@@ -7,7 +7,8 @@ use native.Mathlib.Decide.{decLe}
 use borrow.Author.Tests.{lt-ltb, le-ltb}
 use lib.ListN.{length, take, drop, length-take, length-drop}
 use lib.Seq.{take-all}
-use Rattle.feed.specs.Feeding.{upToEnd, Kept, Feeds, TakesOn}
+use Rattle.feed.specs.Lines.{Kept}
+use Rattle.feed.specs.Feeding.{upToEnd, Feeds, TakesOn}
 use Rattle.feed.specs.declared.Fed.{Fed}
 use Rattle.feed.proofs.Ends.{within}
 
