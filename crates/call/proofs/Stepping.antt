@@ -20,20 +20,13 @@ use Rattle.feed.proofs.Pieces.{feeding}
 use Rattle.desk.specs.Desk.{Does, DeskReply}
 use Rattle.desk.specs.declared.Desk.{Desk}
 use Rattle.desk.specs.declared.Turn.{Turn}
+use Rattle.feed.proofs.Keeping.{kept-self}
 use Rattle.call.specs.declared.Progress.{Progress}
 use Rattle.call.specs.Steps.{State, state, Answered, Answers, Finishing}
 use Rattle.call.specs.Work.{lineNow, Stepping}
 
 pub kept-none : (room : List ℕ) → Kept room 0 []
 kept-none room = record { many = omega arith; bytes = sym (take-nil (length room)) }
-
--- the bytes kept are of the line that they are
-pub kept-self : (room : List ℕ) (at : ℕ) → at ≤ length room → Kept room at (take at room)
-kept-self room at h =
-    record {
-      many = omega (arith, length-take-le at room h);
-      bytes = sym (take-all (length room) (take at room) (omega (arith, length-take-le at room h)));
-    }
 
 -- a line is answered as what is kept of it: where it is too long, so is that
 pub whole-line : (d : Desk) (room : List ℕ) (at : ℕ) (line : List ℕ) → length room ≡ 1041 → Kept room at line → {table table′ work work′ out out′ : List ℕ} {r : Turn}

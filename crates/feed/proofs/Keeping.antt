@@ -6,7 +6,7 @@ use Prim.Native.Nat.{ℕ, suc, _+_, _-_, _≤_, _<_}
 use native.Mathlib.Nat.{add-zero}
 use native.Mathlib.Omega.{arith}
 use native.Mathlib.Decide.{decLe}
-use lib.ListN.{length, take, drop, set, length-set, length-append, length-drop}
+use lib.ListN.{length, take, drop, set, length-set, length-append, length-take, length-drop}
 use lib.Seq.{take-all, take-suc-set, take-append-le, append-snoc}
 use borrow.Author.Tests.{lt-ltb, le-ltb}
 use Rattle.printing.specs.Printing.{Put}
@@ -14,6 +14,12 @@ use Rattle.printing.proofs.Laws.{sets-past}
 use Rattle.feed.specs.Lines.{Kept}
 use Rattle.feed.specs.Feeding.{upToEnd, ends, TakesOn}
 use Rattle.feed.proofs.Ends.{front}
+
+-- the first bytes of a room are a line that it keeps
+pub kept-self : (room : List ℕ) (at : ℕ) → at ≤ length room → Kept room at (take at room)
+kept-self room at h =
+    let l = length-take at room in
+    record { many = omega arith; bytes = sym (take-all (length room) (take at room) (omega arith)) }
 
 -- one byte more, where there is a place for it
 kept-byte : {room : List ℕ} {at : ℕ} {line : List ℕ} (x : ℕ) → at < length room → Kept room at line → Kept (set room at x) (suc at) (line ++ (x ∷ []))

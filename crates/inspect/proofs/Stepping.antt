@@ -1,26 +1,19 @@
 -- What a feed tells of where it stops. Assumes nothing.
-use mathlib.Core.Path.{_≡_, sym}
+use mathlib.Core.Path.{_≡_}
 use mathlib.Core.List.{List}
 use Prim.Native.Nat.{ℕ, _-_, _≤_, _<_}
 use native.Mathlib.Omega.{arith}
 use native.Mathlib.Decide.{decLe}
 use borrow.Author.Tests.{lt-ltb, le-ltb}
-use lib.ListN.{length, take, drop, length-take, length-drop}
-use lib.Seq.{take-all}
-use Rattle.feed.specs.Lines.{Kept}
+use lib.ListN.{length, take, drop, length-drop}
 use Rattle.feed.specs.Feeding.{upToEnd, Feeds, TakesOn}
 use Rattle.feed.specs.declared.Fed.{Fed}
 use Rattle.feed.proofs.Ends.{within}
-
--- the first bytes of a room are a line that it keeps
-itself : (room : List ℕ) (at : ℕ) → at ≤ length room → Kept room at (take at room)
-itself room at h =
-    let l = length-take at room in
-    record { many = omega arith; bytes = sym (take-all (length room) (take at room) (omega arith)) }
+use Rattle.feed.proofs.Keeping.{kept-self}
 
 module _ (room : List ℕ) (at : ℕ) (piece : List ℕ) (from : ℕ) (room′ : List ℕ) (r : Fed) (f : TakesOn room at piece from room′ r) (h : at ≤ length room) where
   fed : Feeds (take at room) piece from room′ r
-  fed = f (take at room) (itself room at h)
+  fed = f (take at room) (kept-self room at h)
 
   pub kept-in : r .at ≤ length room′
   kept-in = omega (arith, fed .kept .many)
