@@ -1,48 +1,45 @@
 -- A sheet in its bounds asks for at most 16,016 table entries and 6,000 bytes of room. Assumes nothing.
-use mathlib.Core.Path.{_≡_, refl, sym, ap, _∙_}
+use mathlib.Core.Path.{_≡_, refl, ap, _∙_}
+use mathlib.Core.Bool.{true}
 use mathlib.Core.List.{List, [], _∷_}
 use mathlib.Core.Logic.{inl, inr}
 use Prim.Native.Nat.{ℕ, _+_, _*_, _≤_, _<_}
 use native.Mathlib.Nat.{mul-le-mul-right}
 use native.Mathlib.Omega.{arith}
 use borrow.Author.Tests.{le-ltb}
-use lib.ListN.{length, length-take}
+use lib.ListN.{length}
 use Rattle.terms.specs.Refusals.{firstFault, OneOf}
-use Rattle.terms.specs.Texts.{size, textFaults, openingFaults}
-use Rattle.terms.proofs.Passed.{sound-limits}
-use Rattle.terms.proofs.Refusals.{opening-numbered, text-passes, fault-goes-on}
+use Rattle.terms.specs.Texts.{size, openingFaults}
+use Rattle.terms.specs.Passed.{SoundText, SoundLimits}
+use Rattle.terms.proofs.Passed.{sound-opening}
+use Rattle.terms.proofs.Refusals.{opening-numbered, fault-goes-on}
 use Rattle.tilings.specs.Tilings.{entries}
 use Rattle.boards.proofs.Laws.{board-laws}
 use Rattle.questions.specs.Tiling.{tableFaults, HandsOver, TilingReply}
 use Rattle.questions.specs.declared.Answer.{Answer}
 use Rattle.questions.proofs.Handed.{handing-whole}
-use Rattle.sheet.specs.Bounds.{textOf}
+use Rattle.sheet.specs.Bounds.{textOf, inBounds}
 use Rattle.sheet.specs.declared.Sheet.{Sheet}
-use Rattle.sheet.proofs.Within.{Within, bounds}
+use Rattle.sheet.proofs.Asked.{content-opens}
 use Rattle.call.specs.Rooms.{RoomEnough}
 
-module _ (s : Sheet) (b : Within s) where
-  -- it has at most 1,000 letters
-  short : size (textOf s) ≤ 1000
-  short = let n : s .n ≤ 1000 = b .letters in simp length-take (omega arith)
-
+module _ (s : Sheet) (w : inBounds s ≡ true) where
   -- what it holds could be opened
-  opens : firstFault (openingFaults (textOf s) (s .limits)) ≡ 0
-  unfolding textFaults firstFault
-  opens = sym (text-passes (textOf s) (s .limits) 0 0 (simp (le-ltb _ _ short) (sym (b .map))) refl (sym (b .limits)))
+  pub holds : SoundText (textOf s) × SoundLimits (s .limits)
+  holds = sound-opening (textOf s) (s .limits) (content-opens s w)
 
   -- its table has at most 1,001 rows of 16 entries
   few-entries : entries (size (textOf s)) (s .limits .g) ≤ 16016
   few-entries =
-      let g : s .limits .g ≤ 15 = sound-limits (s .limits) (b .limits) .few in
-      let n : size (textOf s) + 1 ≤ 1001 = omega (arith, short) in
+      let g : s .limits .g ≤ 15 = holds .1 .few in
+      let n : size (textOf s) + 1 ≤ 1001 = omega (arith, holds .0 .short) in
       let a : entries (size (textOf s)) (s .limits .g) ≤ 1001 * (s .limits .g + 1) = mul-le-mul-right (s .limits .g + 1) n in omega arith
 
   -- so no test before the tiling refuses
   no-fault : (lent : ℕ) → 16016 ≤ lent → firstFault (tableFaults (textOf s) (s .limits) lent) ≡ 0
   unfolding tableFaults firstFault
   no-fault lent h =
-      fault-goes-on (openingFaults (textOf s) (s .limits)) _ (opening-numbered (textOf s) (s .limits)) opens
+      fault-goes-on (openingFaults (textOf s) (s .limits)) _ (opening-numbered (textOf s) (s .limits)) (content-opens s w)
       ∙ simp (le-ltb lent (entries (size (textOf s)) (s .limits .g)) (omega (arith, few-entries))) refl
 
   module _ (room room′ : List ℕ) (r : Answer) (h : 6000 ≤ length room) where
@@ -51,7 +48,7 @@ module _ (s : Sheet) (b : Within s) where
     handed (inl a) = inr (inr (inl (ap (λ (x : Answer). x .number) (a .1))))
     handed (inr a) =
         let l : length (a .0) ≤ size (textOf s) = board-laws (textOf s) (s .limits) .few (s .limits .g) (a .0) (a .1 .permitted) in
-        inl (ap (λ (x : Answer). x .number) (a .2 ∙ ap (λ (y : Answer × List ℕ). y .0) (handing-whole (textOf s) (a .0) room (omega (arith, short)))))
+        inl (ap (λ (x : Answer). x .number) (a .2 ∙ ap (λ (y : Answer × List ℕ). y .0) (handing-whole (textOf s) (a .0) room (omega (arith, holds .0 .short)))))
 
     replied : (table table′ : List ℕ) → 16016 ≤ length table → TilingReply (textOf s) (s .limits) table table′ room room′ r → OneOf (r .number) (0 ∷ 24 ∷ 10 ∷ [])
     replied table table′ t (inl f) =
@@ -60,4 +57,4 @@ module _ (s : Sheet) (b : Within s) where
 
 pub room-enough : RoomEnough
 room-enough s table table′ room room′ r t m (inl p) = inr (inl (ap (λ (x : Answer). x .number) (p .1)))
-room-enough s table table′ room room′ r t m (inr p) = replied s (bounds s (p .0)) room room′ r m table table′ t (p .1)
+room-enough s table table′ room room′ r t m (inr p) = replied s (p .0) room room′ r m table table′ t (p .1)

@@ -1,0 +1,177 @@
+-- No reply is longer than 65,536 bytes. Assumes nothing.
+use mathlib.Core.Path.{_≡_, refl, sym, ap, _∙_}
+use mathlib.Core.Bool.{Bool, true, false, not, cond}
+use mathlib.Core.List.{List, [], _∷_}
+use mathlib.Core.Logic.{inl, inr, ⊎-elim}
+use Prim.Native.Nat.{ℕ, _+_, _-_, _≤_, _<_}
+use native.Mathlib.Omega.{arith}
+use borrow.Author.Tests.{eqb-true, eqb-false}
+use lib.Dec.{eqb}
+use lib.ListN.{length, drop}
+use Rattle.terms.specs.Refusals.{firstFault, OneOf}
+use Rattle.terms.specs.Maps.{mapFaults}
+use Rattle.terms.specs.Limits.{limitsFaults}
+use Rattle.terms.specs.Texts.{Text, text, textFaults, openingFaults}
+use Rattle.terms.specs.declared.limits.Limits.{Limits}
+use Rattle.terms.proofs.Refusals.{numbers, fault-listed}
+use Rattle.terms.proofs.Passed.{passed, not-off, sound-limits, sound-opening}
+use Rattle.tilings.specs.Tilings.{Part, Given}
+use Rattle.boards.specs.Pieces.{board}
+use Rattle.questions.specs.Tiling.{figures}
+use Rattle.questions.specs.declared.Answer.{Answer}
+use Rattle.changes.specs.Changes.{doneOf, backOf, accepts}
+use Rattle.changes.specs.declared.Change.{Change}
+use Rattle.changes.specs.declared.Change.the-variants.{Letter as ChangedLetter, Limits as ChangedLimits}
+use Rattle.changes.specs.declared.Edit.{Edit}
+use Rattle.changes.specs.declared.Edit.the-variants.{Letter as EditLetter, Limits as EditLimits}
+use Rattle.sheet.specs.Bounds.{textOf, inBounds}
+use Rattle.sheet.specs.Calls.{answered, saidBy, applied, changed, letterFaults, letterCall, limitsCallFaults, limitsCall, newestOf, lastTaken, takeBackFaults, takeBackCall, putAgainFaults, putAgainCall, openCall}
+use Rattle.sheet.specs.Question.{SheetReply}
+use Rattle.sheet.specs.declared.Said.{Said}
+use Rattle.sheet.specs.declared.Sheet.{Sheet}
+use Rattle.sheet.specs.declared.Reply.{Reply}
+use Rattle.sheet.proofs.Asked.{sheet-laws}
+use Rattle.sheet.proofs.Replying.{answer-no, answer-yes, pop-some, place-inside, newest-back, last-done, letter-sound, limits-sound}
+use Rattle.sheet.proofs.Within.{bounds}
+use Rattle.lines.specs.Lines.{Short, Reads}
+use Rattle.lines.specs.declared.Line.{Line}
+use Rattle.lines.specs.declared.Line.the-variants.{Open, Letter, Limits as NewLimits, TakeBack, PutAgain, Question, Unknown}
+use Rattle.replies.specs.Replies.{refusalText, saidText, restoredText, tilingText}
+use Rattle.desk.specs.Desk.{mapOf, withSheet, opening, calling, Shown, Does}
+use Rattle.desk.specs.declared.Desk.{Desk}
+use Rattle.call.specs.Rooms.{LettersOf, Bytes, RepliesFit}
+use Rattle.call.proofs.Rooms.{holds}
+use Rattle.call.proofs.Lengths.{refusal-length, Small, said-length, restored-length, tiling-length}
+
+-- a number listed is as short as those of the list
+listed-short : (k : ℕ) (ns : List ℕ) → Short ns → OneOf k ns → k < 10000
+listed-short k [] h o = absurd o
+listed-short k (n ∷ ns) h (inl e) = omega (arith, h .0)
+listed-short k (n ∷ ns) h (inr o) = listed-short k ns (h .1) o
+
+-- a call says short numbers where its refusals' are, and those of what it accepts
+answered-small : (faults : List (ℕ × Bool)) (s : Sheet) (accepted : Reply) → Short (numbers faults) → (0 ≡ firstFault faults → Small (accepted .said)) → Small (answered faults s accepted .said)
+answered-small faults s accepted h a = go (eqb (firstFault faults) 0) refl
+  where
+    go : (t : Bool) → eqb (firstFault faults) 0 ≡ t → Small (answered faults s accepted .said)
+    go true e = let z : 0 ≡ firstFault faults = sym (eqb-true _ _ e) in rw (answer-yes faults s accepted z) (a z)
+    go false e =
+        rw (answer-no faults s accepted (firstFault faults) refl (eqb-false _ _ e))
+        (record { number = listed-short (firstFault faults) (0 ∷ numbers faults) (omega arith, h) (fault-listed faults); values = (omega arith, (omega arith, (omega arith, (omega arith, tt)))) })
+
+-- an edit that writes a letter writes a byte
+abbrev ByteOf : Edit → Type 0
+ByteOf (EditLetter p b) = b < 256
+ByteOf (EditLimits l) = Unit {0}
+
+-- so does one that takes back a kept change
+back-byte : (c : Change) → LettersOf c → ByteOf (backOf c)
+back-byte (ChangedLetter p old new) h = h .0
+back-byte (ChangedLimits old new) h = tt
+
+-- and one that makes it again
+done-byte : (c : Change) → LettersOf c → ByteOf (doneOf c)
+done-byte (ChangedLetter p old new) h = h .1
+done-byte (ChangedLimits old new) h = tt
+
+-- each call on a sheet says short numbers
+module _ (s : Sheet) (b : Bytes s) where
+  -- an edit that is accepted, with k changes standing
+  edit-small : (e : Edit) (k : ℕ) → s .n ≤ 1000 → accepts (s .n) e ≡ true → ByteOf e → k ≤ 64 → Small (saidBy e s k)
+  unfolding accepts
+  edit-small (EditLetter p c) k n a h few =
+      record { number = omega arith; values = (omega (arith, place-inside (s .n) p c a), (omega (arith, b .letters p), (omega arith, (omega arith, tt)))) }
+  edit-small (EditLimits l) k n a h few =
+      let w = sound-limits l (eqb-true _ _ a) in
+      let kind : l .kind ≤ 2 = ⊎-elim (λ (e : l .kind ≡ 1). omega arith) (λ (e : l .kind ≡ 2). omega arith) (w .kind) in
+      record { number = omega arith; values = (omega arith, (omega (arith, w .short), (omega (arith, w .few), (omega (arith, w .near), (omega arith, tt))))) }
+
+  -- a letter
+  letter-small : (p c : ℕ) → c ≤ 255 → Small (letterCall s p c .said)
+  unfolding letterFaults changed
+  letter-small p c h =
+      answered-small (letterFaults s p) _ _ (omega arith, (omega arith, (omega arith, tt)))
+      (λ e. let w = letter-sound s p c e in edit-small (EditLetter p c) (s .standing + 1) (w .0) (w .1) (omega arith) (omega (arith, w .2)))
+
+  -- limits
+  limits-small : (l : Limits) → Small (limitsCall s l .said)
+  unfolding limitsCallFaults limitsFaults changed
+  limits-small l =
+      answered-small (limitsCallFaults s l) _ _ (omega arith, (omega arith, (omega arith, (omega arith, tt))))
+      (λ e. let w = limits-sound s l e in edit-small (EditLimits l) (s .standing + 1) (w .0) (w .1) tt (omega (arith, w .2)))
+
+  -- past 24 and the test after it there is a change to take back, or to put again
+  there-is : (k many : ℕ) → 0 < k → 0 ≡ firstFault ((24, not (inBounds s)) ∷ (k, eqb many 0) ∷ []) → (inBounds s ≡ true) × (many ≡ 0 → ⊥)
+  there-is k many h e =
+      let (w, z) = passed 24 (not (inBounds s)) ((k, eqb many 0) ∷ []) (omega arith) (sym e) in
+      (not-off _ w, eqb-false _ _ (passed k (eqb many 0) [] h z .0))
+
+  -- a take-back
+  back-small : Small (takeBackCall s .said)
+  unfolding takeBackFaults applied
+  back-small =
+      answered-small (takeBackFaults s) _ _ (omega arith, (omega arith, tt))
+      (λ e.
+      let (i, some) = there-is 8 (s .standing) (omega arith) e in
+      edit-small (backOf (newestOf s)) (s .standing - 1) (bounds s i .letters) (newest-back s (newestOf s) i (sym (pop-some 8 (s .standing) (newestOf s) some .0)))
+      (back-byte (newestOf s) (b .kept (s .standing - 1))) (omega (arith, bounds s i .few)))
+
+  -- a put-again
+  again-small : Small (putAgainCall s .said)
+  unfolding putAgainFaults applied
+  again-small =
+      answered-small (putAgainFaults s) _ _ (omega arith, (omega arith, tt))
+      (λ e.
+      let (i, some) = there-is 9 (s .taken) (omega arith) e in
+      edit-small (doneOf (lastTaken s)) (s .standing + 1) (bounds s i .letters) (last-done s (lastTaken s) i (sym (pop-some 9 (s .taken) (lastTaken s) some .0)))
+      (done-byte (lastTaken s) (b .kept (s .standing))) (omega (arith, bounds s i .few)))
+
+-- so does an opening
+open-small : (x : Text) (l : Limits) → Small (openCall x l .said)
+unfolding openingFaults textFaults mapFaults limitsFaults
+open-small x l =
+    answered-small (openingFaults x l) _ _ (omega arith, (omega arith, (omega arith, (omega arith, (omega arith, tt)))))
+    (λ e. record { number = omega arith; values = (omega (arith, sound-opening x l (sym e) .0 .short), (omega arith, tt)) })
+
+-- a question: its refusal, or the tiling given
+shown-length : (s : Sheet) (t t′ m m′ out : List ℕ) → Shown s t t′ m m′ out → length out ≤ 65536
+shown-length s t t′ m m′ out p =
+    ⊎-elim (λ r. rw (r .1) (omega (arith, refusal-length (p .answer .number) number))) (λ r. rw (r .3) (given (r .0) (r .1) (r .2) (p .reply))) (p .printed)
+  where
+    number : p .answer .number < 10000
+    number =
+        listed-short (p .answer .number) (0 ∷ 24 ∷ 11 ∷ 10 ∷ 12 ∷ []) (omega arith, (omega arith, (omega arith, (omega arith, (omega arith, tt)))))
+        (sheet-laws s t m .listed t′ m′ (p .answer) (p .reply))
+
+    given : (ps : List Part) → Given (board (textOf s) (s .limits)) 0 (s .limits .g) ps → p .answer ≡ figures ps → SheetReply s t t′ m m′ (p .answer) → length (tilingText (textOf s) ps) ≤ 65536
+    given ps g e (inl r) = let z : _≡_ {A = ℕ} 24 0 = ap (λ (a : Answer). a .number) (sym (r .1) ∙ e) in absurd (omega arith)
+    given ps g e (inr r) =
+        let (x, l) = holds s (r .0) in
+        omega (arith, tiling-length (textOf s) (s .limits) (x .short) (l .near) (s .limits .g) ps (l .few) (g .permitted))
+
+-- a call: 14, or what it says
+calling-length : (d : Desk) (r : Reply) (show : Said → List ℕ) → length (show (r .said)) ≤ 29 → length (calling d r show .1) ≤ 65536
+unfolding calling
+calling-length d r show h = go (d .opened)
+  where
+    go : (t : Bool) → length (cond {A = Desk × List ℕ} t (withSheet (r .sheet), show (r .said)) (d, refusalText 14) .1) ≤ 65536
+    go true = omega arith
+    go false = omega (arith, refusal-length 14 (omega arith))
+
+-- every line's reply
+module _ (d : Desk) (xs : List ℕ) (b : Bytes (d .sheet)) (t t′ m m′ : List ℕ) where
+  text-length : (line : Line) (o : Desk × List ℕ) → Reads xs line → Does d xs line t t′ m m′ o → length (o .1) ≤ 65536
+  unfolding opening
+  text-length (Open l c from) o q p = rw (p .0) (omega (arith, said-length _ (open-small (text (drop from xs) (mapOf c)) l)))
+  text-length (Letter a c) o q p = rw (p .0) (calling-length d _ saidText (omega (arith, said-length _ (letter-small (d .sheet) b a c (q .proper .1)))))
+  text-length (NewLimits l) o q p = rw (p .0) (calling-length d _ saidText (omega (arith, said-length _ (limits-small (d .sheet) b l))))
+  text-length TakeBack o q p = rw (p .0) (calling-length d _ (restoredText 66) (restored-length 66 _ (back-small (d .sheet) b)))
+  text-length PutAgain o q p = rw (p .0) (calling-length d _ (restoredText 65) (restored-length 65 _ (again-small (d .sheet) b)))
+  text-length Question o q (inl p) = rw (p .1) (omega (arith, refusal-length 14 (omega arith)))
+  text-length Question o q (inr p) = shown-length (d .sheet) t t′ m m′ (o .1) (p .2)
+  text-length Unknown o q p = rw (p .0) (omega (arith, refusal-length 13 (omega arith)))
+
+-- so the room holds the whole text
+pub replies-fit : RepliesFit
+replies-fit d line t t′ m m′ out out′ r b h reply =
+    omega (arith, reply .puts .next, text-length d line b t t′ m m′ (reply .line) (r .desk, reply .text) (reply .reads) (reply .does))
