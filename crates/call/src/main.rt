@@ -36,7 +36,7 @@ fn step(
     room: &mut [u8],
     out: &mut [u8],
 ) -> Progress
-    requires { ⌜ (length (now bytes) ≡ 1041) × (at ≤ 1041) × (from < length (now piece)) × (16016 ≤ length (now table)) × (6000 ≤ length (now room)) ⌝ }
+    requires { ⌜ (length (now bytes) ≡ 1041) × (at ≤ 1041) × (from < length (now piece)) × (16016 ≤ length (now table)) × (6000 ≤ length (now room)) × (65536 ≤ length (now out)) ⌝ }
     ensures { λ r. ⌜ (from < r .from) × (r .from ≤ length (now (piece .entry))) × (r .at ≤ 1041) × (r .written ≤ length (now (out .entry))) ⌝ }
     ensures { λ r. ⌜ Stepping desk (now (bytes .entry)) (now (bytes .exit)) at (now (piece .entry)) from (now (table .entry)) (now (table .exit)) (now (room .entry)) (now (room .exit)) (now (out .entry)) (now (out .exit)) r ⌝ }
 {
@@ -71,7 +71,7 @@ fn answer_piece(
     room: &mut [u8],
     out: &mut [u8],
 ) -> Between
-    requires { ⌜ (length (now bytes) ≡ 1041) × (at ≤ 1041) × (16016 ≤ length (now table)) × (6000 ≤ length (now room)) ⌝ }
+    requires { ⌜ (length (now bytes) ≡ 1041) × (at ≤ 1041) × (16016 ≤ length (now table)) × (6000 ≤ length (now room)) × (65536 ≤ length (now out)) ⌝ }
     ensures { λ r. ⌜ r .at ≤ 1041 ⌝ }
     ensures { λ r. ⌜ Reading desk (now (bytes .entry)) (now (bytes .exit)) at (now (piece .entry)) (now (table .entry)) (now (table .exit)) (now (room .entry)) (now (room .exit)) (now (out .entry)) (now (out .exit)) r ⌝ }
 {
@@ -100,7 +100,7 @@ fn finish(
     room: &mut [u8],
     out: &mut [u8],
 ) -> Turn
-    requires { ⌜ (length (now bytes) ≡ 1041) × (at ≤ 1041) × (16016 ≤ length (now table)) × (6000 ≤ length (now room)) ⌝ }
+    requires { ⌜ (length (now bytes) ≡ 1041) × (at ≤ 1041) × (16016 ≤ length (now table)) × (6000 ≤ length (now room)) × (65536 ≤ length (now out)) ⌝ }
     ensures { λ r. ⌜ r .written ≤ length (now (out .entry)) ⌝ }
     ensures { λ r. ⌜ Finishing desk (now (bytes .entry)) at (now (table .entry)) (now (table .exit)) (now (room .entry)) (now (room .exit)) (now (out .entry)) (now (out .exit)) r ⌝ }
 {

@@ -21,7 +21,7 @@ use Rattle.questions.proofs.Handed.{handing-whole}
 use Rattle.sheet.specs.Bounds.{textOf, inBounds}
 use Rattle.sheet.specs.declared.Sheet.{Sheet}
 use Rattle.sheet.proofs.Asked.{content-opens}
-use Rattle.call.specs.Rooms.{RoomEnough}
+use Rattle.rooms.specs.Rooms.{RoomEnough}
 
 module _ (s : Sheet) (w : inBounds s ≡ true) where
   -- what it holds could be opened

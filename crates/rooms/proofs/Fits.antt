@@ -39,9 +39,9 @@ use Rattle.lines.specs.declared.Line.the-variants.{Open, Letter, Limits as NewL
 use Rattle.replies.specs.Replies.{refusalText, saidText, restoredText, tilingText}
 use Rattle.desk.specs.Desk.{mapOf, withSheet, opening, calling, Shown, Does}
 use Rattle.desk.specs.declared.Desk.{Desk}
-use Rattle.call.specs.Rooms.{LettersOf, Bytes, RepliesFit}
-use Rattle.call.proofs.Rooms.{holds}
-use Rattle.call.proofs.Lengths.{refusal-length, Small, said-length, restored-length, tiling-length}
+use Rattle.rooms.specs.Rooms.{LettersOf, Bytes, RepliesFit}
+use Rattle.rooms.proofs.Rooms.{holds}
+use Rattle.rooms.proofs.Lengths.{refusal-length, Small, said-length, restored-length, tiling-length}
 
 -- a number listed is as short as those of the list
 listed-short : (k : ℕ) (ns : List ℕ) → Short ns → OneOf k ns → k < 10000

@@ -1,0 +1,2 @@
+-- What the call program lends is enough.
+pub mod Rooms
