@@ -114,6 +114,7 @@ fn finish(
 fn main() {
     let mut bytes = [0u8; LINE];
     let mut piece = [0u8; 65536];
+    // Enough for every question and every reply, as the crate `rooms` shows.
     let mut table = [0u16; 16016];
     let mut room = [0u8; 6000];
     let mut out = [0u8; 65536];

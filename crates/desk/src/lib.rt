@@ -113,6 +113,7 @@ impl Desk {
         }
     }
 
+    // A letter call, or 14.
     fn letter(self, place: usize, byte: u8, out: &mut [u8]) -> Turn
         ensures { λ r. ⌜ Turned (calling self (letterCall (self .sheet) place byte) saidText) (now (out .entry)) (now (out .exit)) r ⌝ }
     {
@@ -123,6 +124,7 @@ impl Desk {
         said(sheet.put_letter(place, byte), out)
     }
 
+    // A limits call, or 14.
     fn limits(self, limits: Limits, out: &mut [u8]) -> Turn
         ensures { λ r. ⌜ Turned (calling self (limitsCall (self .sheet) limits) saidText) (now (out .entry)) (now (out .exit)) r ⌝ }
     {
@@ -133,6 +135,7 @@ impl Desk {
         said(sheet.put_limits(limits), out)
     }
 
+    // A take-back, or 14.
     fn take_back(self, out: &mut [u8]) -> Turn
         ensures { λ r. ⌜ Turned (calling self (takeBackCall (self .sheet)) (restoredText 66)) (now (out .entry)) (now (out .exit)) r ⌝ }
     {
@@ -143,6 +146,7 @@ impl Desk {
         restored(sheet.take_back(), b'B', out)
     }
 
+    // A put-again, or 14.
     fn put_again(self, out: &mut [u8]) -> Turn
         ensures { λ r. ⌜ Turned (calling self (putAgainCall (self .sheet)) (restoredText 65)) (now (out .entry)) (now (out .exit)) r ⌝ }
     {

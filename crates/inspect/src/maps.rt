@@ -5,6 +5,7 @@ ghost use mathlib.Core.Path.{_≡_};
 ghost use Prim.Native.Nat.{_≤_};
 ghost use Rattle.inspect.specs.Lending.{shiftedMap, mapBytes, mapSize};
 
+// A map by its name in a line.
 pub enum Map {
     Plain,
     Complement,

@@ -7,6 +7,7 @@ ghost use Rattle.terms.specs.Passed.{SoundText};
 ghost use Rattle.longest.specs.Longest.{FirstLongest, PartOf};
 ghost use Rattle.longest.specs.Work.{Longer};
 
+// A part of a string by its place; of no letters where there is no palindrome.
 pub struct Span {
     pub start: usize,
     pub len: usize,

@@ -65,6 +65,7 @@ pub struct Sheet {
     pub taken: usize,
 }
 
+// What a call hands back: the sheet afterwards, and what is said.
 pub struct Reply {
     pub sheet: Sheet,
     pub said: Said,

@@ -18,6 +18,7 @@ pub struct Limits {
 }
 
 impl Limits {
+    // What refusal 4 says.
     fn wrong_kind(self) -> bool
         ensures { λ r. ⌜ r ≡ wrongKind self ⌝ }
     {
@@ -28,6 +29,7 @@ impl Limits {
         kind != 2
     }
 
+    // What refusal 5 says.
     fn out_of_range(self) -> bool
         ensures { λ r. ⌜ r ≡ outOfRange self ⌝ }
     {
