@@ -3,3 +3,4 @@ pub mod Lengths
 pub mod Deciding
 pub mod Showing
 pub mod Theorem
+pub mod Empty

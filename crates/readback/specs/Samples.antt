@@ -1,8 +1,12 @@
 -- The examples marked (p), in order (01, "Read-back sheet of examples").
+use mathlib.Core.Path.{_≡_}
 use mathlib.Core.List.{List, [], _∷_}
-use Prim.Native.Nat.{ℕ}
+use Prim.Native.Nat.{ℕ, _+_}
+use lib.ListN.{replicate}
+use Rattle.terms.specs.Refusals.{firstFault}
+use Rattle.terms.specs.Limits.{limitsFaults}
 use Rattle.terms.specs.declared.limits.Limits.{Limits}
-use Rattle.readback.specs.Shown.{Sample, tiling, noTiling, allCentres, plain, complement, P, G}
+use Rattle.readback.specs.Shown.{Map, textOf, TilingShown, Sample, tiling, noTiling, allCentres, plain, complement, P, G}
 
 abbrev pub limits : ℕ → ℕ → ℕ → ℕ → Limits
 limits k m g d = record { kind = k; m = m; g = g; d = d }
@@ -39,3 +43,8 @@ samples =
     ∷ tiling complement TAGTCGACTA (limits 1 10 0 0) 0 0 (P 0 10 0 ∷ []) []
     ∷ tiling complement ACT (limits 2 3 0 1) 0 0 (P 0 3 1 ∷ []) []
     ∷ []
+
+-- The first of them for every map and all limits: no letters, total 0, no parts, table g + 1 zeros.
+abbrev pub EmptyShown : Type 0
+EmptyShown =
+    (f : Map) (l : Limits) → firstFault (limitsFaults l) ≡ 0 → TilingShown (textOf f []) l 0 0 [] (replicate (l .g + 1) 0)
