@@ -6,10 +6,11 @@
 
 Each COMMAND runs a program under test on standard input and output. Seeded
 scripts are sent to it, and each reply is compared byte for byte with that of
-tests/second.py; where 01 prints the answer, also with that text. --long does
-ten times as much. --spoil flips one byte of each program's output, to show
-that the comparison can fail. The last line is 'N passed, M failed', and the
-exit status is 0 only where nothing failed.
+tests/second.py; where 01, request L1 or their readings settle the answer,
+also with a text written by hand. --long does ten times as much. --spoil flips
+one byte of each program's output, to show that the comparison can fail. The
+last line is 'N passed, M failed', and the exit status is 0 only where nothing
+failed.
 """
 
 import argparse
@@ -25,6 +26,12 @@ import time
 # Keeps the tests' directory free of compiled files.
 sys.dont_write_bytecode = True
 import second  # noqa: E402
+from damage import (  # noqa: E402
+    OUT_OF_RANGE, RECORD, RETURN_WAYS, Returned, can_be_opened)
+from texts import (  # noqa: E402
+    AGREEMENT_LINES, AGREEMENT_READINGS, EXAMPLE_12, EXAMPLE_12_START,
+    EXAMPLE_INPUT, EXAMPLE_OUTPUT, LINE_READINGS, READER_READINGS,
+    READ_BACK_CALLS, READ_BACK_INSPECTIONS, TILING_READINGS)
 
 RUN_LIMIT_SECONDS = 600
 TURN_LIMIT_SECONDS = 20
@@ -34,7 +41,7 @@ SHOWN_BYTES = 1500
 
 class Script:
     """Lines for one run of a program, and how they are sent. The expected
-    text, or its start alone, is what 01 prints."""
+    text, or its start alone, is written by hand."""
 
     def __init__(self, name, lines, ended=True, sent="whole", expected=None,
                  only_start=False):
@@ -279,9 +286,9 @@ def report_difference(program, script, seed, replies, output, trouble):
 
 
 def report_hand_text(program, script, whole):
-    print("FAILED: %s script '%s': the second program differs from 01's text"
-          % (program.name, script.name))
-    print("  01:\n" + shown_lines(script.expected))
+    print("FAILED: %s script '%s': the second program differs from the text "
+          "written by hand" % (program.name, script.name))
+    print("  by hand:\n" + shown_lines(script.expected))
     print("  second program:\n" + shown_lines(whole))
 
 
@@ -312,290 +319,6 @@ def compare_all(program, scripts, seed):
           % (program.name, passed + failed, lines))
     sys.stdout.flush()
     return passed, failed
-
-
-# Texts written out by hand from 01: lines beside their replies.
-
-EXAMPLE_INPUT = b"""O 1 2 2 0 I TACCATG
-Q
-L 6 84
-Q
-B
-A
-B
-B
-L 7 84
-"""
-
-EXAMPLE_OUTPUT = b"""O 7 0
-Q 1 2 1
-P 0 6 0
-G 6 1 0
-L 6 71 84 1
-Q 1 2 1
-P 0 6 0
-G 6 1 0
-B L 6 84 71 0
-A L 6 71 84 1
-B L 6 84 71 0
-! 8
-! 6
-"""
-
-# Example 12 of document 000, 92 letters in two printed lines. It names four
-# gaps of 46 letters under the Hamming distance. That leaves 46 letters for
-# pieces of 14 or more, so three pieces and seven parts; which ones it doesn't
-# say.
-EXAMPLE_12 = (
-    b"GGACTCGGCTTGCTGAGGTGCACACAGCAAGAGGCGAGAGCGGCGACTGGTGAGTACGCCAAATTT"
-    b"TGACTAGCGGAGGCTAGAAGGAGAGA")
-EXAMPLE_12_START = b"O 92 0\nQ 46 7 4\n"
-
-READ_BACK_CALLS = [
-    ("empty string", [
-        (b"O 1 1 0 0 I ", "O 0 0"),
-        (b"Q", "Q 0 0 0")]),
-    ("AC, g 0 and g 1", [
-        (b"O 1 2 0 0 I AC", "O 2 0"),
-        (b"Q", "! 10"),
-        (b"M 1 2 1 0", "M 1 2 1 0 1"),
-        (b"Q", "Q 2 1 1\nG 0 2 0")]),
-    ("abaca", [
-        (b"O 2 1 0 0 I abaca", "O 5 0"),
-        (b"Q", "! 10"),
-        (b"M 2 1 1 0", "M 2 1 1 0 1"),
-        (b"Q", "Q 1 3 1\nP 0 3 0\nG 3 1 0\nP 4 1 0"),
-        (b"M 1 1 0 0", "M 1 1 0 0 2"),
-        (b"Q", "Q 0 3 0\nP 0 3 0\nP 3 1 0\nP 4 1 0")]),
-    ("GTATCG", [
-        (b"O 2 2 0 1 I GTATCG", "O 6 0"),
-        (b"Q", "Q 0 2 0\nP 0 3 1\nP 3 3 1"),
-        (b"O 2 1 0 1 I GTATCG", "O 6 0"),
-        (b"Q", "Q 0 2 0\nP 0 5 1\nP 5 1 0")]),
-    ("TAGTCGACTA", [
-        (b"O 1 10 0 0 C TAGTCGACTA", "O 10 0"),
-        (b"Q", "Q 0 1 0\nP 0 10 0")]),
-    ("ACT", [
-        (b"O 2 3 0 1 C ACT", "O 3 0"),
-        (b"Q", "Q 0 1 0\nP 0 3 1")]),
-    ("GACATTCGAACGT, centre 13", [
-        (b"O 2 12 1 1 C GACATTCGAACGT", "O 13 0"),
-        (b"Q", "Q 1 2 1\nG 0 1 0\nP 1 12 1")]),
-    ("largest limits", [
-        (b"O 2 1000 15 15 I " + b"A" * 1000, "O 1000 0"),
-        (b"Q", "Q 0 1 0\nP 0 1000 0"),
-        (b"O 2 1000 15 15 I " + b"A" * 1001, "! 1"),
-        (b"O 2 0 15 15 I A", "! 5"),
-        (b"O 2 1001 15 15 I A", "! 5"),
-        (b"O 2 1000 16 15 I A", "! 5"),
-        (b"O 2 1000 15 16 I A", "! 5"),
-        (b"M 2 1000 15 15", "M 2 1000 15 15 1"),
-        (b"M 2 0 15 15", "! 5"),
-        (b"M 2 1001 15 15", "! 5"),
-        (b"M 2 1000 16 15", "! 5"),
-        (b"M 2 1000 15 16", "! 5")]),
-    ("change 64 stands, change 65 is 7",
-        [(b"O 1 1 0 0 I A", "O 1 0")]
-        + [(b"L 0 65", "L 0 65 65 %d" % k) for k in range(1, 65)]
-        + [(b"L 0 65", "! 7"),
-           (b"M 1 1 0 0", "! 7"),
-           (b"L 1 65", "! 6"),
-           (b"M 3 1 0 0", "! 4"),
-           (b"B", "B L 0 65 65 63"),
-           (b"M 1 1 1 0", "M 1 1 1 0 64")]),
-]
-
-LINE_READINGS = [
-    ("1: the space before an empty string", [
-        (b"O 1 2 2 0 I", "! 13"),
-        (b"Q", "! 14"),
-        (b"O 1 2 2 0 I ", "O 0 0"),
-        (b"Q", "Q 0 0 0")]),
-    ("2: all bytes but the line end are letters", [
-        (b"O 1 1 0 0 I  A ", "O 3 0"),
-        (b"Q", "Q 0 1 0\nP 0 3 0"),
-        (b"O 1 1 0 0 I A\r", "O 2 0"),
-        (b"O 1 1 0 0 C \x00\x80\xff\x00", "O 4 0"),
-        (b"Q", "Q 0 4 0\nP 0 1 0\nP 1 1 0\nP 2 1 0\nP 3 1 0"),
-        (b"L 0 10", "L 0 0 10 1"),
-        (b"L 1 255", "L 1 128 255 2"),
-        (b"Q", "Q 0 3 0\nP 0 1 0\nP 1 2 0\nP 3 1 0")]),
-    ("3: spaces and CR around short lines", [
-        (b"O 1 1 0 0 I AC", "O 2 0"),
-        (b"Q ", "! 13"), (b" Q", "! 13"), (b"Q\r", "! 13"),
-        (b"B ", "! 13"), (b"L 1 65 ", "! 13"), (b"A ", "! 13"),
-        (b"L 1 65\r", "! 13"), (b"M 1 1 0 0 ", "! 13"),
-        (b"L  1 65", "! 13"), (b"L 1  65", "! 13"), (b"L\t1 65", "! 13"),
-        (b" O 1 1 0 0 I AC", "! 13"), (b"O  1 1 0 0 I AC", "! 13")]),
-    ("5: 1,040 bytes", [
-        (b"O 1 2 2 0 I " + b"A" * 1000, "O 1000 0"),
-        (b"O 1 2 2 0 I " + b"A" * 1001, "! 1"),
-        (b"O 1 2 2 0 I " + b"A" * 1028, "! 1"),
-        (b"O 1 2 2 0 I " + b"A" * 1029, "! 13"),
-        (b"O 9 0 99 99 I " + b"A" * 1000, "! 4"),
-        (b"O 9 0 99 99 I " + b"A" * 1001, "! 1"),
-        (b"O 9 0 99 99 I " + b"A" * 1027, "! 13")]),
-    ("6: one 13 for a long line", [
-        (b"O 1 1 0 0 I A", "O 1 0"),
-        (b"Q" * 5000, "! 13"),
-        (b" Q" * 50000, "! 13"),
-        (b"x" * 1040 + b"Q", "! 13"),
-        (b"x" * 2080 + b"L 0 65", "! 13"),
-        (b"Q", "Q 0 1 0\nP 0 1 0")]),
-    ("7: form first, no sheet open", [
-        (b"L 0 256", "! 13"), (b"L 0 9999", "! 13"), (b"L 00000 65", "! 13"),
-        (b"L 01 65", "! 13"), (b"L 1 065", "! 13"), (b"L +1 65", "! 13"),
-        (b"L -1 65", "! 13"), (b"L 10000 65", "! 13"), (b"L 1 00", "! 13"),
-        (b"L 1", "! 13"), (b"L", "! 13"), (b"L 1 65 1", "! 13"),
-        (b"L x 65", "! 13"), (b"L 1 65535", "! 13"), (b"M 1 2 2", "! 13"),
-        (b"M 1 2 2 0 0", "! 13"), (b"M 1 2 2 00", "! 13"),
-        (b"O 1 2 2 0 X AC", "! 13"), (b"O 1 2 2 0 c AC", "! 13"),
-        (b"O 1 2 2 0 IC AC", "! 13"), (b"O 1 2 2 0  AC", "! 13"),
-        (b"O 01 2 2 0 I AC", "! 13"), (b"O 1 2 2 I AC", "! 13"),
-        (b"o 1 2 2 0 I AC", "! 13"), (b"OO 1 2 2 0 I AC", "! 13"),
-        (b"O 0 2 2 0 I AC", "! 4"), (b"O 257 2 2 0 I AC", "! 4"),
-        (b"O 3 0 2 0 I AC", "! 4"), (b"O 1 0 2 0 I AC", "! 5"),
-        (b"O 1 2 9999 0 I AC", "! 5"), (b"O 1 2 2 1 I AC", "! 5"),
-        (b"Q", "! 14")]),
-    ("7: values out of range are not cut", [
-        (b"O 1 1 0 0 I AC", "O 2 0"),
-        (b"L 9999 65", "! 6"), (b"L 256 65", "! 6"), (b"L 2 65", "! 6"),
-        (b"M 257 1 0 0", "! 4"), (b"M 0 1 0 0", "! 4"),
-        (b"M 9999 1 0 0", "! 4"), (b"M 1 1 256 0", "! 5"),
-        (b"M 1 1 9999 0", "! 5"), (b"M 2 1 0 256", "! 5"),
-        (b"M 2 1 0 257", "! 5"), (b"M 1 1025 0 0", "! 5"),
-        (b"M 1 1 0 1", "! 5"), (b"M 2 1 0 1", "M 2 1 0 1 1"),
-        (b"L 0 255", "L 0 65 255 2"), (b"L 0 0", "L 0 255 0 3")]),
-    ("8: 13, then 14, then the call's own list", [
-        (b"L 0 65", "! 14"), (b"M 1 1 0 0", "! 14"), (b"B", "! 14"),
-        (b"A", "! 14"), (b"Q", "! 14"), (b"M 9 0 99 99", "! 14"),
-        (b"L 9999 0", "! 14"), (b"L 9999 256", "! 13"),
-        (b"M 9 0 99 099", "! 13"), (b"O 9 0 99 99 I ", "! 4"),
-        (b"O 1 1 0 0 I ", "O 0 0"), (b"B", "! 8"), (b"A", "! 9"),
-        (b"L 0 65", "! 6")]),
-    ("9: a refused first opening", [
-        (b"O 1 0 0 0 I A", "! 5"),
-        (b"Q", "! 14"), (b"B", "! 14"), (b"A", "! 14"),
-        (b"L 0 65", "! 14")]),
-    ("10: a refused opening leaves both lists", [
-        (b"O 1 1 0 0 I AC", "O 2 0"),
-        (b"L 0 67", "L 0 65 67 1"),
-        (b"L 1 71", "L 1 67 71 2"),
-        (b"B", "B L 1 71 67 1"),
-        (b"O 3 1 0 0 I AC", "! 4"),
-        (b"A", "A L 1 67 71 2"),
-        (b"B", "B L 1 71 67 1"),
-        (b"O 1 1 0 0 I CC", "O 2 0"),
-        (b"A", "! 9"), (b"B", "! 8")]),
-    ("11: what leaves the taken-back list", [
-        (b"O 1 1 0 0 I AC", "O 2 0"),
-        (b"L 0 67", "L 0 65 67 1"),
-        (b"B", "B L 0 67 65 0"),
-        (b"Q", "Q 0 2 0\nP 0 1 0\nP 1 1 0"),
-        (b"", "! 13"), (b"L 0 256", "! 13"), (b"L 2 67", "! 6"),
-        (b"M 1 0 0 0", "! 5"), (b"M 3 1 0 0", "! 4"), (b"B", "! 8"),
-        (b"A", "A L 0 65 67 1"),
-        (b"B", "B L 0 67 65 0"),
-        (b"L 0 65", "L 0 65 65 1"),
-        (b"A", "! 9"),
-        (b"B", "B L 0 65 65 0"),
-        (b"A", "A L 0 65 65 1")]),
-    ("12 and 13: what is said back", [
-        (b"O 1 2 2 0 I ACA", "O 3 0"),
-        (b"M 2 1 0 3", "M 2 1 0 3 1"),
-        (b"L 1 84", "L 1 67 84 2"),
-        (b"M 2 1 0 3", "M 2 1 0 3 3"),
-        (b"B", "B M 2 1 0 3 2"),
-        (b"B", "B L 1 84 67 1"),
-        (b"B", "B M 1 2 2 0 0"),
-        (b"B", "! 8"),
-        (b"A", "A M 2 1 0 3 1"),
-        (b"A", "A L 1 67 84 2"),
-        (b"A", "A M 2 1 0 3 3"),
-        (b"A", "! 9")]),
-    ("14: Q without letters, 10 alone", [
-        (b"O 2 1000 15 15 C ", "O 0 0"),
-        (b"Q", "Q 0 0 0"),
-        (b"M 1 1 0 0", "M 1 1 0 0 1"),
-        (b"Q", "Q 0 0 0"),
-        (b"O 1 2 0 0 I ACA", "O 3 0"),
-        (b"L 2 84", "L 2 65 84 1"),
-        (b"Q", "! 10"),
-        (b"B", "B L 2 84 65 0"),
-        (b"Q", "Q 0 1 0\nP 0 3 0")]),
-    ("15: parts count pieces and gaps", [
-        (b"O 2 2 3 1 I TACCATG", "O 7 0"),
-        (b"Q", "Q 0 3 0\nP 0 3 1\nP 3 2 1\nP 5 2 1"),
-        (b"O 2 1 1 0 I abaca", "O 5 0"),
-        (b"Q", "Q 1 3 1\nP 0 3 0\nG 3 1 0\nP 4 1 0")]),
-]
-
-TILING_READINGS = [
-    ("17: gaps never touch", [
-        (b"O 1 3 2 0 I AA", "O 2 0"),
-        (b"Q", "Q 2 1 1\nG 0 2 0")]),
-    ("18: the first differing part decides", [
-        (b"O 1 3 2 0 I AACAC", "O 5 0"),
-        (b"Q", "Q 2 3 2\nG 0 1 0\nP 1 3 0\nG 4 1 0")]),
-    ("20: a middle letter without itself as partner", [
-        (b"O 2 1 0 0 C A", "O 1 0"),
-        (b"Q", "! 10"),
-        (b"M 2 1 0 1", "M 2 1 0 1 1"),
-        (b"Q", "Q 0 1 0\nP 0 1 1"),
-        (b"L 0 78", "L 0 65 78 2"),
-        (b"Q", "Q 0 1 0\nP 0 1 0")]),
-    ("21: m and g above n", [
-        (b"O 1 1000 15 0 I AA", "O 2 0"),
-        (b"Q", "Q 2 1 1\nG 0 2 0")]),
-]
-
-READ_BACK_INSPECTIONS = [
-    ("empty string", [
-        (b"T 1 1 0 0 I 1 0 ", "T 0 0 0 0\nE 0\nR"),
-        (b"S 1 1 2 0 I 5 2 ", "S 0 0 0 0\nE 0 0 0 9 9\nR 9 9")]),
-    ("AC, g 0 and g 1", [
-        (b"T 1 2 0 0 I 4 6 AC",
-         "T 10 0 0 0\nE 65535 65535 0 9\nR 9 9 9 9 9 9"),
-        (b"T 1 2 1 0 I 6 6 AC",
-         "T 0 2 1 1\nE 65535 2 65535 1 0 0\nR 71 0 0 0 0 2"),
-        (b"S 1 2 1 0 I 6 5 AC",
-         "S 12 0 1 0\nE 65535 2 65535 1 0 0\nR 9 9 9 9 9"),
-        (b"S 1 2 1 0 I 5 6 AC", "S 11 0 0 0\nE 9 9 9 9 9\nR 9 9 9 9 9 9"),
-        (b"S 3 2 1 0 I 5 6 AC", "! 4"),
-        (b"T 3 2 1 0 I 1 1 AC", "T 4 0 0 0\nE 9\nR 9")]),
-    ("GTATCG, m 2", [
-        (b"T 2 2 0 1 I 7 13 GTATCG",
-         "T 0 0 2 0\nE 0 0 0 0 0 65535 0\n"
-         "R 80 1 0 0 0 3 80 1 0 3 0 3 9")]),
-    ("GTATCG, centres", [
-        (b"C 0 I 11 GTATCG", "C 0 11\nE 1 0 1 0 3 0 1 0 1 0 1"),
-        (b"C 1 I 12 GTATCG", "C 0 11\nE 1 2 3 2 5 2 3 2 3 2 1 9"),
-        (b"C 1 I 2 GTATCG", "C 11 0\nE 9 9"),
-        (b"C 16 I 2 GTATCG", "C 5 0\nE 9 9"),
-        (b"C 15 I 0 ", "C 0 0\nE"),
-        (b"C 15 S 0 ", "C 2 0\nE"),
-        (b"C 15 X 0 ", "C 3 0\nE")]),
-    ("longest palindromes", [
-        (b"P I abaca", "P 0 3\nR 97 98 97"),
-        (b"P C A", "P 0 0\nR"),
-        (b"P I ", "P 0 0\nR"),
-        (b"P S abaca", "P 2 0\nR"),
-        (b"P X abaca", "P 3 0\nR"),
-        (b"P X " + b"A" * 1001, "P 1 0\nR"),
-        (b"W I 2 ACAA", "W 0 2\nR 65 65"),
-        (b"W I 3 ABACDC", "W 0 3\nR 65 66 65"),
-        (b"W I 0 ABA", "W 0 3\nR 65 66 65"),
-        (b"W I 3 ABA", "W 0 3\nR 65 66 65"),
-        (b"W I 4 ABA", "! 13"),
-        (b"W S 0 " + b"A" * 1001, "W 1 0\nR"),
-        (b"W X 1 " + b"A" * 1001, "W 3 0\nR")]),
-    ("lines that are not understood", [
-        (b"", "! 13"), (b"Q", "! 13"), (b"P I", "! 13"), (b"P i A", "! 13"),
-        (b"C 0 I 11", "! 13"), (b"C 00 I 1 A", "! 13"),
-        (b"T 1 1 0 0 I 1 ", "! 13"), (b"T 1 1 0 0 I 10000 0 A", "! 13"),
-        (b"P I " + b"A" * 1037, "! 13"), (b"P I " + b"A" * 1036,
-                                           "P 1 0\nR")]),
-]
 
 
 def hand_scripts(group, cases):
@@ -692,14 +415,6 @@ def usual_limits(source):
     g = source.choice([0, 0, 1, 1, 2, 3, 5, 15])
     d = source.choice([0, 0, 1, 1, 2, 3, 15]) if kind == 2 else 0
     return [kind, m, g, d]
-
-
-OUT_OF_RANGE = [
-    [0, 3, 255, 257, 258, 9999],
-    [0, 1001, 1024, 1025, 9999],
-    [16, 255, 256, 272, 9999],
-    [1, 16, 255, 256, 257, 9999],
-]
 
 
 def any_limits(source):
@@ -1018,13 +733,17 @@ def room_near(source, needed):
     return min(9999, max(0, source.choice(rooms)))
 
 
+def parts_given(string, map_name, limits):
+    """None where the opening is refused or no tiling exists."""
+    if not can_be_opened(string, map_name, limits):
+        return None
+    return second.tile(
+        string, second.INSPECT_MAPS[map_name], tuple(limits))[0]
+
+
 def room_for_parts(string, map_name, limits):
     """Bytes that the parts need; any room will do where none are given."""
-    try:
-        sheet = second.Sheet(string, second.INSPECT_MAPS[map_name], *limits)
-    except second.Refusal:
-        return 6
-    parts, _ = second.tile(string, sheet.letter_map, tuple(limits))
+    parts = parts_given(string, map_name, limits)
     return 6 if parts is None else 6 * len(parts)
 
 
@@ -1053,8 +772,54 @@ def longer_line(source, string):
     return joined(b"W", any_inspect_map(source), first, string)
 
 
+# Part files beside the string, map and limits that they return with.
+
+def step_question(place, file):
+    return joined(b"F", place, file.hex())
+
+
+def agreement_question(returned):
+    return joined(b"Y", *returned.limits, returned.map_name,
+                  returned.file.hex(), returned.string)
+
+
+def writing_question(returned):
+    """The tiling question that writes the very file, with just enough lent."""
+    limits, map_name, string, file = returned
+    table = (len(string) + 1) * (limits[2] + 1)
+    return joined(b"T", *limits, map_name, table, len(file), string)
+
+
+def file_beside(source, string):
+    """The file of the tiling, or one gap where there is none."""
+    limits, map_name = any_limits(source), any_inspect_map(source)
+    parts = parts_given(string, map_name, limits)
+    if parts is None:
+        parts = [(second.GAP, 0, len(string), 0)]
+    returned = Returned(limits, map_name, string, second.records_of(parts))
+    if source.random() < 0.5:
+        returned = source.choice(RETURN_WAYS)(source, returned) or returned
+    return returned
+
+
+def some_places(source, file):
+    """One on a record or behind the last, and any other."""
+    count = len(file) // RECORD.size + 1
+    return [RECORD.size * source.randrange(count),
+            source.randrange(len(file) + 9)]
+
+
+def step_line(source, string):
+    file = file_beside(source, string).file
+    return step_question(source.choice(some_places(source, file)), file)
+
+
+def agreement_line(source, string):
+    return agreement_question(file_beside(source, string))
+
+
 INSPECT_SORTS = [tiling_line, tiling_line, centres_line, longest_line,
-                 longer_line]
+                 longer_line, step_line, agreement_line, agreement_line]
 
 
 def inspection_lines(source, line_count, lengths):
@@ -1100,13 +865,102 @@ def too_long_strings(source):
             joined(b"C", source.choice([0, 16]), map_name, 3, string),
             joined(b"P", map_name, string),
             joined(b"W", map_name, source.choice([0, 1, 30, 1000, 1001]),
-                   string)]
+                   string),
+            joined(b"Y", 1, 1, 0, 0, map_name,
+                   source.choice([b"", b"00", b"5000000003e8"]), string)]
+    return lines
+
+
+def short_case(source):
+    """Limits, a map and a string of up to 60 letters."""
+    length = source.choice([1, 3, 5, 8, 12, 20, 30, 45, 60])
+    return usual_limits(source), any_map(source), any_string(source, length)
+
+
+def long_folds(source, letter_map, length):
+    """Long palindromes, some with other letters between them."""
+    word = b""
+    while len(word) < length:
+        arm = random_word(source, b"ACGT", source.randrange(40, 200))
+        word += arm + arm[::-1].translate(letter_map)
+        word += random_word(source, b"ACGT", source.choice([0, 0, 3, 30]))
+    return word[:length]
+
+
+def long_case(source):
+    """Up to 1,000 letters for few long parts, with limits whose table a line
+    can name."""
+    length = source.choice([1000, 990, 970, 940, 900, 800, 600])
+    kind, d = source.choice([(1, 0), (2, 0), (2, 1), (2, 4), (2, 15)])
+    m, g = source.choice([20, 30, 50, 300]), source.choice([0, 1, 2, 4, 8])
+    map_name = any_map(source)
+    string = long_folds(source, second.INSPECT_MAPS[map_name], length)
+    if source.random() < 0.25:
+        word = b"A" if map_name == b"I" else b"AT"
+        string = word * (length // len(word))
+        # All spans, or every other, are exact palindromes: a few are enough.
+        m = length - 60 if kind == 1 else m
+    return [kind, m, g, d], map_name, string
+
+
+def returned_file(source, drawn_case):
+    """A string that can be tiled, with the file of its tiling, where both fit
+    in a line. Files of one or two parts are few: they leave little to damage.
+    """
+    while True:
+        limits, map_name, string = drawn_case(source)
+        parts = parts_given(string, map_name, limits)
+        if parts is None or len(parts) < 3 and source.random() < 0.7:
+            continue
+        returned = Returned(limits, map_name, string,
+                            second.records_of(parts))
+        if len(agreement_question(returned)) <= second.MOST_LINE_BYTES:
+            return returned
+
+
+def places_of(file):
+    """Every place of a short file, the records of a longer one; and places
+    past the end."""
+    step = 1 if len(file) <= 60 else RECORD.size
+    return list(range(0, len(file) + 8, step)) + [len(file) + 1, 9999]
+
+
+def returned_lines(source, returned):
+    """Lines with the file whole, at all its places, and changed in every way
+    that it allows; and the set of those ways."""
+    file, used = returned.file, set()
+    lines = [writing_question(returned), agreement_question(returned)]
+    lines += [step_question(place, file) for place in places_of(file)]
+    for way in RETURN_WAYS:
+        changed = way(source, returned)
+        if changed is None:
+            continue
+        used.add(way)
+        lines.append(agreement_question(changed))
+        if changed.file != file:
+            lines += [step_question(place, changed.file)
+                      for place in some_places(source, changed.file)]
+    return lines, used
+
+
+def returns(source, drawn_case, count):
+    """So many files, and further ones as long as a way isn't used yet."""
+    lines, unused = [], set(RETURN_WAYS)
+    while count > 0 or unused:
+        file_lines, used = returned_lines(
+            source, returned_file(source, drawn_case))
+        if count > 0 or unused & used:
+            lines += file_lines
+            unused -= used
+        count -= 1
     return lines
 
 
 def inspect_scripts(seed, times):
     """All scripts for the inspect program."""
     yield from hand_scripts("read-back sheet", READ_BACK_INSPECTIONS)
+    yield from hand_scripts(
+        "L1 reading", READER_READINGS + AGREEMENT_READINGS + AGREEMENT_LINES)
     yield raw_script("empty input", b"", b"")
     yield raw_script("a lone line end", b"\n", b"! 13\n")
     yield raw_script("a last line without line end", b"P I AA",
@@ -1120,6 +974,10 @@ def inspect_scripts(seed, times):
     yield from many(seed, "long inspections", 4 * times,
                     long_inspection_lines)
     yield from many(seed, "too long strings", 2 * times, too_long_strings)
+    yield from many(seed, "returned files", 24 * times,
+                    lambda s: returns(s, short_case, 3))
+    yield from many(seed, "long returned files", 6 * times,
+                    lambda s: returns(s, long_case, 2))
     yield raw_script("noise", seeded(seed, "inspect noise").randbytes(
         20000 * times), None)
     yield from arrival_scripts(

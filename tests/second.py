@@ -1,15 +1,18 @@
 #!/usr/bin/env python3
 """An independent second program for the call program and for inspection.
 
-Written from the build description (01) and from how docs/DECISIONS.md reads it, by
-the definitions, so that it shares no code with the program that it is compared with.
+Written from the build description (01), from request L1 (02) and from how
+docs/DECISIONS.md reads them, by the definitions, so that it shares no code
+with the program that it is compared with.
 
     python3 tests/second.py call        answers the call program's lines
     python3 tests/second.py inspect     answers the inspect lines
-    python3 tests/second.py self-check  compares its two ways of tiling
+    python3 tests/second.py self-check  compares its two ways of each question
 
 Short strings are tiled by brute force over all permitted tilings, longer ones
-by a plain table. The self-check shows that both ways agree.
+by a plain table. The self-check shows that both ways agree, and that a part
+file is judged to be a permitted tiling exactly when it is the file of one of
+all permitted tilings.
 """
 
 import itertools
@@ -106,16 +109,16 @@ def start_of_span(centre, length):
 
 # Brute force over all tilings. A part is (sort, start, length, errors).
 
-def is_piece_by_definition(letters, letter_map, limits, start, length):
+def is_piece(letters, letter_map, limits, start, length, longest_at):
+    """Whether a span inside the string is a piece; longest_at is one of the
+    two ways to the maximal length of a centre."""
     kind, m, _, d = limits
-    span = letters[start:start + length]
     if length < m:
         return False
     if kind == 1:
-        return is_exact_palindrome(span, letter_map)
+        return is_exact_palindrome(letters[start:start + length], letter_map)
     centre = start + (start + length - 1)
-    return length == maximal_length_by_definition(
-        letters, letter_map, centre, d)
+    return length == longest_at(letters, letter_map, centre, d)
 
 
 def pieces_by_definition(letters, letter_map, limits):
@@ -125,7 +128,8 @@ def pieces_by_definition(letters, letter_map, limits):
         [(PIECE, start, length,
           error_count(letters[start:start + length], letter_map))
          for length in range(1, count - start + 1)
-         if is_piece_by_definition(letters, letter_map, limits, start, length)]
+         if is_piece(letters, letter_map, limits, start, length,
+                     maximal_length_by_definition)]
         for start in range(count)]
 
 
@@ -311,6 +315,96 @@ def refuse_limits(kind, m, g, d):
         raise Refusal(5)
 
 
+# Part records, written and read back.
+
+def record_of(part):
+    sort, start, length, errors = part
+    return bytes([ord(sort), errors, start // 256, start % 256,
+                  length // 256, length % 256])
+
+
+def records_of(parts):
+    return b"".join(record_of(part) for part in parts)
+
+
+def read_part(file, place):
+    """One step of the reader: None at the end, else the part at the place, as
+    it stands there, and the place of the next."""
+    if place == len(file):
+        return None
+    if place > len(file) or place % BYTES_A_PART != 0:
+        raise Refusal(6)
+    record = file[place:place + BYTES_A_PART]
+    if len(record) < BYTES_A_PART:
+        raise Refusal(15)
+    if chr(record[0]) not in (PIECE, GAP):
+        raise Refusal(16)
+    start = 256 * record[2] + record[3]
+    length = 256 * record[4] + record[5]
+    part = chr(record[0]), start, length, record[1]
+    return part, place + BYTES_A_PART
+
+
+def walked_parts(file):
+    """All parts that the reader hands out from 0 up to the end."""
+    parts = []
+    step = read_part(file, 0)
+    while step is not None:
+        part, following = step
+        parts.append(part)
+        step = read_part(file, following)
+    return parts
+
+
+def is_right_part(letters, letter_map, limits, part):
+    """What one part shows by itself, beside string, map and limits."""
+    sort, start, length, errors = part
+    if length == 0 or start + length > len(letters):
+        return False
+    if sort == GAP:
+        return errors == 0
+    span = letters[start:start + length]
+    return errors == error_count(span, letter_map) and is_piece(
+        letters, letter_map, limits, start, length, maximal_length)
+
+
+def is_tiling(parts, count, g):
+    """What only right parts together show: in order from 0 without overlap up
+    to the last of so many letters, no touching gaps, at most g gaps."""
+    place = 0
+    for _, start, length, _ in parts:
+        if start != place:
+            return False
+        place += length
+    touching = any(one[0] == GAP and following[0] == GAP
+                   for one, following in zip(parts, parts[1:]))
+    return place == count and not touching and gap_count(parts) <= g
+
+
+def refuse_file(letters, letter_map, limits, file):
+    """The second question: a file that isn't refused is a permitted tiling.
+    All records are judged by themselves before any are judged together."""
+    refuse_letters_and_map(letters, letter_map)
+    refuse_limits(*limits)
+    if len(file) % BYTES_A_PART != 0:
+        raise Refusal(15)
+    parts = walked_parts(file)
+    if not all(is_right_part(letters, letter_map, limits, part)
+               for part in parts):
+        raise Refusal(16)
+    if not is_tiling(parts, len(letters), limits[2]):
+        raise Refusal(17)
+
+
+def ask_agreement(letters, letter_map, limits, file):
+    """The second question's number; 0 says yes."""
+    try:
+        refuse_file(letters, letter_map, limits, file)
+    except Refusal as refusal:
+        return refusal.number
+    return 0
+
+
 # The sheet.
 
 class Sheet:
@@ -408,6 +502,13 @@ def map_from(field, known_maps):
     return known_maps[field]
 
 
+def file_from(field):
+    """Two small hexadecimal digits a byte, or refusal 13."""
+    if len(field) % 2 == 1 or any(c not in b"0123456789abcdef" for c in field):
+        raise Refusal(13)
+    return bytes.fromhex(field.decode("ascii"))
+
+
 def fields_of(line, count, string_last=False):
     """Exactly count fields; a string may hold spaces itself and is last."""
     fields = line.split(b" ", count - 1) if string_last else line.split(b" ")
@@ -486,14 +587,6 @@ def question_lines(sheet):
 
 
 # The inspect lines.
-
-def records_of(parts):
-    records = []
-    for sort, start, length, errors in parts:
-        records += [ord(sort), errors, start // 256, start % 256,
-                    length // 256, length % 256]
-    return records
-
 
 def fill(lent, values):
     """Later entries stay."""
@@ -620,12 +713,37 @@ def inspect_longer(fields):
     return part_lines("W", 0, longer_of_two(first, second, letter_map))
 
 
+def inspect_step(fields):
+    """F asks the reader for one step."""
+    _, place, file = fields
+    place, file = number_from(place), file_from(file)
+    try:
+        step = read_part(file, place)
+    except Refusal as refusal:
+        return line_of("F", refusal.number)
+    if step is None:
+        return line_of("F", 0)
+    (sort, start, length, errors), following = step
+    return line_of("F", 0, ord(sort), errors, start, length, following)
+
+
+def inspect_agreement(fields):
+    """Y asks whether the records agree with string, map and limits."""
+    _, kind, m, g, d, map_name, file, string = fields
+    limits = tuple(numbers_from([kind, m, g, d]))
+    letter_map = map_from(map_name, INSPECT_MAPS)
+    return line_of("Y", ask_agreement(
+        string, letter_map, limits, file_from(file)))
+
+
 INSPECT_LINES = {
     b"T": (9, inspect_tiling),
     b"S": (9, inspect_tiling),
     b"C": (5, inspect_centres),
     b"P": (3, inspect_longest),
     b"W": (4, inspect_longer),
+    b"F": (3, inspect_step),
+    b"Y": (8, inspect_agreement),
 }
 
 
@@ -686,6 +804,86 @@ def check_palindromes(letters, letter_map):
                     for c in range(2 * len(letters) - 1)])
 
 
+def right_records(pieces):
+    """The records of all pieces and of all gaps inside the string."""
+    count = len(pieces)
+    gaps = [(GAP, start, length, 0) for start in range(count)
+            for length in range(1, count - start + 1)]
+    return {record_of(part) for part in itertools.chain(gaps, *pieces)}
+
+
+def agreement_by_lookup(file, whole_files, records):
+    """The second question's number after the opening's: the file is looked up
+    among those of all permitted tilings, its records among all right ones."""
+    if file in whole_files:
+        return 0
+    if len(file) % BYTES_A_PART != 0:
+        return 15
+    places = range(0, len(file), BYTES_A_PART)
+    known = all(file[k:k + BYTES_A_PART] in records for k in places)
+    return 17 if known else 16
+
+
+def any_cover(random_source, pieces):
+    """Right parts from 0 up to the end; gaps may touch or be too many."""
+    parts, place = [], 0
+    while place < len(pieces):
+        gaps = [(GAP, place, length, 0)
+                for length in range(1, len(pieces) - place + 1)]
+        parts.append(random_source.choice(
+            random_source.choice([gaps, pieces[place] or gaps])))
+        place += parts[-1][2]
+    return parts
+
+
+def damaged(random_source, file):
+    """Records left out, doubled or in another order, the tail cut, or a byte
+    written over."""
+    first, last = sorted(
+        BYTES_A_PART * random_source.randrange(len(file) // BYTES_A_PART + 1)
+        for _ in range(2))
+    place = random_source.randrange(len(file) + 1)
+    byte = random_source.choice([0, 1, 2, 3, 71, 80, 255])
+    return random_source.choice([
+        file[:first] + file[last:], file[:last] + file[first:],
+        file[first:last] + file[:first] + file[last:], file[:place],
+        file[:place] + bytes([byte]) + file[place + 1:]])
+
+
+def check_walk(tiling, file):
+    for index, part in enumerate(tiling):
+        place = BYTES_A_PART * index
+        must_agree("reader", (file, place), read_part(file, place),
+                   (part, place + BYTES_A_PART))
+    must_agree("reader's end", file, read_part(file, len(file)), None)
+
+
+def check_files(random_source, letters, letter_map, limits, rounds):
+    """Whole files and damaged ones of one string."""
+    pieces = pieces_by_definition(letters, letter_map, limits)
+    tilings = list(itertools.islice(
+        all_tilings(pieces, 0, limits[2]), BRUTE_TILINGS + 1))
+    if len(tilings) > BRUTE_TILINGS:
+        return 0
+    whole_files = {records_of(tiling): tiling for tiling in tilings}
+    for file, tiling in whole_files.items():
+        check_walk(tiling, file)
+    records = right_records(pieces)
+    files = random_source.sample(sorted(whole_files),
+                                 min(rounds, len(whole_files)))
+    files += [records_of(any_cover(random_source, pieces))
+              for _ in range(rounds)]
+    # Damaged once, and then some of them again, so that refusals meet.
+    for _ in range(2):
+        files += [damaged(random_source, file) for file in files]
+    for file in files:
+        must_agree("agreement", (letters, letter_map == PLAIN_MAP, limits,
+                                 file),
+                   agreement_by_lookup(file, whole_files, records),
+                   ask_agreement(letters, letter_map, limits, file))
+    return len(files)
+
+
 def check_every_small_string():
     count = 0
     for alphabet, letter_map in ((b"AC", PLAIN_MAP), (b"AT", COMPLEMENT_MAP),
@@ -697,20 +895,30 @@ def check_every_small_string():
     return count
 
 
+def any_case(random_source, lengths, most_m):
+    """A string, a map and limits that an opening accepts."""
+    letter_map = random_source.choice([PLAIN_MAP, COMPLEMENT_MAP])
+    alphabet = random_source.choice([b"AC", b"AT", b"ACN", b"ACGT"])
+    length = random_source.choice(lengths)
+    letters = bytes(random_source.choices(alphabet, k=length))
+    kind = random_source.choice([1, 2])
+    d = random_source.randrange(4) if kind == 2 else 0
+    m = random_source.randrange(1, most_m + 1)
+    return letters, letter_map, (kind, m, random_source.randrange(5), d)
+
+
 def check_random_strings(random_source, rounds):
     count = 0
     for _ in range(rounds):
-        letter_map = random_source.choice([PLAIN_MAP, COMPLEMENT_MAP])
-        alphabet = random_source.choice([b"AC", b"AT", b"ACN", b"ACGT"])
-        length = random_source.randrange(6, 12)
-        letters = bytes(random_source.choices(alphabet, k=length))
-        kind = random_source.choice([1, 2])
-        d = random_source.randrange(4) if kind == 2 else 0
-        m = random_source.randrange(1, 6)
-        limits = kind, m, random_source.randrange(5), d
+        letters, letter_map, limits = any_case(random_source, range(6, 12), 5)
         check_palindromes(letters, letter_map)
         count += check_tiling(letters, letter_map, limits)
     return count
+
+
+def check_random_files(random_source, rounds):
+    return sum(check_files(random_source, *any_case(
+        random_source, range(10), 3), 6) for _ in range(rounds))
 
 
 def self_check():
@@ -718,7 +926,8 @@ def self_check():
     random_source = random.Random(1)
     count = check_every_small_string()
     count += check_random_strings(random_source, 600)
-    print("self-check: %d tilings agree" % count)
+    file_count = check_random_files(random_source, 1500)
+    print("self-check: %d tilings and %d files agree" % (count, file_count))
 
 
 def run_lines(program):

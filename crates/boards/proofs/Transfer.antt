@@ -1,5 +1,5 @@
 -- The board by maximal lengths is the board of the string: what the engine finds on the one holds on the other. Assumes nothing.
-use mathlib.Core.Path.{_≡_, refl, sym, subst}
+use mathlib.Core.Path.{_≡_, refl}
 use mathlib.Core.List.{List}
 use mathlib.Core.Logic.{_⊎_, inl, inr, ⊎-elim}
 use Prim.Native.Nat.{ℕ, _+_, _-_, _≤_}
@@ -8,13 +8,15 @@ use lib.ListN.{getD}
 use Rattle.terms.specs.Texts.{Text, size}
 use Rattle.terms.specs.Passed.{SoundText, SoundLimits}
 use Rattle.terms.specs.declared.limits.Limits.{Limits}
-use Rattle.spans.specs.Palindromes.{ExactPalindrome, DPalindrome, Maximal, MaximalLength}
+use Rattle.spans.specs.Palindromes.{MaximalLength}
 use Rattle.spans.specs.Centres.{Holds}
-use Rattle.spans.proofs.Exactness.{Bytes, exact-pal, pal-exact, within, is-maximal, maximal-is}
+use Rattle.spans.proofs.Exactness.{Bytes}
 use Rattle.tilings.specs.Tilings.{Part, Given, None, Entry, Table}
 use Rattle.tilings.specs.Work.{PieceBy, boardBy}
 use Rattle.tilings.proofs.Same.{Into, given-to, none-to, entry-to, table-to}
 use Rattle.boards.specs.Pieces.{Piece, board}
+use Rattle.boards.proofs.Centred.{short-piece, piece-short, maximal-piece, piece-maximal}
+use Rattle.boards.proofs.Laws.{piece-some, piece-inside}
 
 module _ (x : Text) (l : Limits) (lens : List ℕ) (sound : SoundText x) (limited : SoundLimits l) (bytes : Bytes (x .letters)) (held : Holds x (l .d) lens) where
   abbrev By : ℕ → ℕ → Type 0
@@ -27,28 +29,26 @@ module _ (x : Text) (l : Limits) (lens : List ℕ) (sound : SoundText x) (limite
   by-to : (a L : ℕ) → By a L → Piece x l a L
   by-to a L p =
       let m = at a L (p .some) (p .inside) in
-      record {
-        long = p .long;
-        is =
-            ⊎-elim
-            (λ (w : (l .kind ≡ 1) × (L ≤ getD lens (a + a + L - 1) 0)).
-            inl (w .0, pal-exact x (sound .back) bytes a L (subst (λ (d : ℕ). DPalindrome x d a L) (limited .exact (w .0)) (within x (l .d) _ _ a L m (p .some) (omega arith) (p .inside) (w .1)))))
-            (λ (w : (l .kind ≡ 2) × (getD lens (a + a + L - 1) 0 ≡ L)). inr (w .0, is-maximal x (l .d) _ _ a L m (p .some) (omega arith) (w .1)))
-            (p .is);
-      }
+      ⊎-elim
+      (λ (w : (l .kind ≡ 1) × (L ≤ getD lens (a + a + L - 1) 0)). short-piece x l sound limited bytes a L _ (p .some) (p .inside) m (w .0) (p .long) (w .1))
+      (λ (w : (l .kind ≡ 2) × (getD lens (a + a + L - 1) 0 ≡ L)). maximal-piece x l sound limited bytes a L _ (p .some) (p .inside) m (w .0) (p .long) (w .1))
+      (p .is)
 
   to-by : (a L : ℕ) → Piece x l a L → By a L
   to-by a L p =
-      ⊎-elim
-      (λ (w : (l .kind ≡ 1) × ExactPalindrome (x .letters) (x .map) a L).
-      let m = at a L (w .1 .some) (w .1 .inside) in
-      let e = exact-pal x a L (w .1) in
-      record { some = e .some; inside = e .inside; long = p .long; is = inl (w .0, m .longest a L (subst (λ (d : ℕ). DPalindrome x d a L) (sym (limited .exact (w .0))) e) (omega arith)) })
-      (λ (w : (l .kind ≡ 2) × Maximal x (l .d) a L).
-      let e = w .1 .is in
-      let m = at a L (e .some) (e .inside) in
-      record { some = e .some; inside = e .inside; long = p .long; is = inr (w .0, maximal-is x (l .d) _ _ a L m (e .some) (omega arith) (w .1)) })
-      (p .is)
+      let some = piece-some x l a L p in
+      let inside = piece-inside x l a L p in
+      let m = at a L some inside in
+      record {
+        some = some;
+        inside = inside;
+        long = p .long;
+        is =
+            ⊎-elim
+            (λ (e : l .kind ≡ 1). inl (e, piece-short x l sound limited bytes a L _ some inside m e p))
+            (λ (e : l .kind ≡ 2). inr (e, piece-maximal x l sound limited bytes a L _ some inside m e p))
+            (limited .kind);
+      }
 
   to : Into (boardBy lens (size x) (l .kind) (l .m)) (board x l)
   to = record { size = refl; to = by-to }

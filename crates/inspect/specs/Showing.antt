@@ -5,6 +5,9 @@ use lib.ListN.{length}
 use Rattle.questions.specs.declared.Answer.{Answer}
 use Rattle.spans.specs.declared.CentreCount.{CentreCount}
 use Rattle.printing.specs.Printing.{printed}
+use Rattle.reader.specs.Reader.{stepNumber, stepValues}
+use Rattle.reader.specs.declared.Stepped.{Stepped}
+use Rattle.reader.specs.declared.Stepped.the-variants.{Part, Finished, Refused}
 
 -- `T` or `S` with the answer's numbers, `E` with the table, `R` with the room.
 abbrev pub tilingText : ℕ → Answer → List ℕ → List ℕ → List ℕ
@@ -18,3 +21,9 @@ centresText found entries = printed 67 (found .number ∷ found .count ∷ []) +
 -- `P` or `W` with the refusal and the part's length, `R` with the part.
 abbrev pub partText : ℕ → ℕ → List ℕ → List ℕ
 partText letter number part = printed letter (number ∷ length part ∷ []) ++ printed 82 part
+
+-- `F` with the step's number, and of a part its values.
+abbrev pub stepText : Stepped → List ℕ
+stepText (Part r next) = printed 70 (stepNumber (Part r next) ∷ stepValues (Part r next))
+stepText Finished = printed 70 (stepNumber Finished ∷ [])
+stepText (Refused k) = printed 70 (stepNumber (Refused k) ∷ [])

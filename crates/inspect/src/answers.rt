@@ -1,6 +1,7 @@
 // One line answered: the call that it asks for is made, and what it says and leaves is printed.
 use crate::asks::Ask;
 use crate::asks::read;
+use crate::files::answer_file;
 use crate::maps::Map;
 use crate::maps::bytes_of;
 use crate::maps::size_of;
@@ -170,6 +171,6 @@ pub fn answer(line: &[u8], table: &mut [u16], room: &mut [u8], out: &mut [u8]) -
             let second = from + first;
             of_two(map, &line[from..second], &line[second..n], out)
         }
-        Ask::Unknown => put_refusal(out, 13),
+        Ask::Unknown => answer_file(line, room, out),
     }
 }

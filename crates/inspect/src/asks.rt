@@ -1,4 +1,4 @@
-// One line read: what it asks, or that it is not understood.
+// One line read: what it asks of the tiling question, the fill or the longest palindromes. Unknown is any other line: `files` has those.
 use crate::maps::Map;
 use lines::BYTES;
 use lines::Four;
@@ -70,7 +70,7 @@ fn map_at(letter: u8, next: usize) -> Named
 }
 
 // A space at a place, and the map's letter behind it.
-fn map_after(s: &[u8], i: usize) -> Named
+pub fn map_after(s: &[u8], i: usize) -> Named
     ensures { λ r. ⌜ Behind (length (now (s .entry))) r ⌝ }
 {
     if !stands(s, i, 32) {

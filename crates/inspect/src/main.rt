@@ -1,6 +1,7 @@
 // The inspect program: lines from standard input, each answered on standard output before more input is waited for.
 mod answers;
 mod asks;
+mod files;
 mod maps;
 mod shows;
 

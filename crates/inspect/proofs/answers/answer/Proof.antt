@@ -110,8 +110,8 @@ of-two-requires c κs = search needs
 enum-told : tie.Need-enum-told
 enum-told c = search needs
 
-put-refusal-requires : tie.Need-put-refusal-requires
-put-refusal-requires c κs = search needs
+answer-file-requires : tie.Need-answer-file-requires
+answer-file-requires c κs = search needs
 
 same-length : tie.Need-same-length
 same-length c = search needs
@@ -148,6 +148,9 @@ returns-4 c = search needs
 
 same-length-8 : tie.Need-same-length-8
 same-length-8 c = search needs
+
+same-length-9 : tie.Need-same-length-9
+same-length-9 c = search needs
 
 returns-5 : tie.Need-returns-5
 returns-5 c = search needs
@@ -191,7 +194,7 @@ answer-spec =
     part-of-two-end-2
     of-two-requires
     enum-told
-    put-refusal-requires
+    answer-file-requires
     same-length
     same-length-2
     same-length-3
@@ -204,4 +207,5 @@ answer-spec =
     same-length-7
     returns-4
     same-length-8
+    same-length-9
     returns-5)

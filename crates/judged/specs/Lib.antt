@@ -1,0 +1,3 @@
+-- One returned record by itself.
+pub mod Judged
+pub mod Work

@@ -1,0 +1,4 @@
+-- Laws that belong to no one function.
+pub mod Bytes
+pub mod Steps
+pub mod Laws

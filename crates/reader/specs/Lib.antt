@@ -1,0 +1,3 @@
+-- Part records read back.
+pub mod Reader
+pub mod Laws

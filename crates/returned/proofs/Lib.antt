@@ -1,0 +1,5 @@
+-- Laws that belong to no one function.
+pub mod Rests
+pub mod Following
+pub mod Judging
+pub mod Laws

@@ -1,0 +1,2 @@
+-- Why it does.
+pub mod RoundTrip

@@ -1,0 +1,2 @@
+-- What a tiling question wrote comes back whole.
+pub mod RoundTrip

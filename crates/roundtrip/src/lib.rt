@@ -1,0 +1,1 @@
+// What a tiling question wrote comes back whole: definitions and laws. No function stands here.
