@@ -1,5 +1,5 @@
 -- The lines read off the records of a tiling are its part lines. Assumes nothing.
-use mathlib.Core.Path.{_≡_, refl, sym, ap, ap₂, _∙_}
+use mathlib.Core.Path.{_≡_, refl, sym, ap, ap₂, _∙_, subst}
 use mathlib.Core.List.{List, [], _∷_, _++_, append-assoc, append-nil}
 use Prim.Native.Nat.{ℕ, zero, suc, _+_, _*_, _/_, _%_, _≤_}
 use native.Mathlib.Omega.{arith}
@@ -9,6 +9,8 @@ use Rattle.terms.specs.Texts.{Text}
 use Rattle.tilings.specs.Tilings.{Part}
 use Rattle.tilings.specs.Laws.{lengthOf}
 use Rattle.records.specs.Records.{tagOf, errorsOf, recordsFrom}
+use Rattle.reader.specs.Reader.{recordAt}
+use Rattle.reader.specs.declared.Record.{Record}
 use Rattle.printing.specs.Printing.{printed, Put}
 use Rattle.replies.specs.Replies.{partLines}
 use Rattle.replies.specs.Work.{recordLine, recordLines}
@@ -42,13 +44,9 @@ lines-of-records x i (p ∷ ps) rest =
     (lines-of-records x (i + lengthOf p) ps rest)
 
 module _ {out : List ℕ} {at r : ℕ} {out′ : List ℕ} where
-  -- the numbers of a record's line, as they are reckoned
-  pub record-line : (room : List ℕ) (i start long errors : ℕ) → Put out at (printed (getD room i 0) (start ∷ long ∷ errors ∷ [])) r out′
-      → start ≡ getD room (i + 2) 0 * 256 + getD room (i + 3) 0 → long ≡ getD room (i + 4) 0 * 256 + getD room (i + 5) 0 → errors ≡ 0 * 256 + getD room (i + 1) 0
-      → Put out at (recordLine room i) r out′
-  record-line room i start long errors p s l e =
-      let z : errors ≡ getD room (i + 1) 0 = omega arith in
-      rw (s, l, z) at p
+  -- the line of a record that was read
+  pub record-line : (room : List ℕ) (i : ℕ) (f : Record) → Put out at (printed (f .tag) (f .start ∷ f .length ∷ f .errors ∷ [])) r out′ → f ≡ recordAt room i → Put out at (recordLine room i) r out′
+  record-line room i f p e = subst (λ (z : Record). Put out at (printed (z .tag) (z .start ∷ z .length ∷ z .errors ∷ [])) r out′) e p
 
   -- all lines, where k has reached the number of parts
   pub all-lines : (room : List ℕ) (k parts : ℕ) → Put out at (recordLines room k) r out′ → k ≤ parts → parts ≤ k → Put out at (recordLines room parts) r out′

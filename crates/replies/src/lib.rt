@@ -2,6 +2,7 @@
 use printing::put_byte;
 use printing::put_line;
 use questions::Answer;
+use reader::record_at;
 use records::SIZE;
 use sheet::Said;
 ghost use mathlib.Core.Path.{_≡_};
@@ -82,23 +83,15 @@ pub fn put_restored(out: &mut [u8], letter: u8, said: Said) -> usize
     put_said(out, at, said)
 }
 
-// A number of two bytes, high byte first.
-fn pair(high: u8, low: u8) -> usize
-    ensures { λ r. ⌜ r ≡ high * 256 + low ⌝ }
-{
-    high as usize * 256 + low as usize
-}
-
 // The line of the record at a place of the room.
 fn put_record_line(out: &mut [u8], at: usize, room: &[u8], i: usize) -> usize
     requires { ⌜ i + recordSize ≤ length (now room) ⌝ }
     ensures { λ r. ⌜ Put (now (out .entry)) at (recordLine (now (room .entry)) i) r (now (out .exit)) ⌝ }
 {
-    let start = pair(room[i + 2], room[i + 3]);
-    let len = pair(room[i + 4], room[i + 5]);
-    let errors = pair(0, room[i + 1]);
-    let numbers = [start, len, errors];
-    put_line(out, at, room[i], &numbers)
+    let found = record_at(room, i);
+    let errors = found.errors as usize;
+    let numbers = [found.start, found.length, errors];
+    put_line(out, at, found.tag, &numbers)
 }
 
 // The lines of the first records of a room.
