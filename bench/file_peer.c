@@ -14,14 +14,18 @@ enum {
     NOT_ITS_INVERSE = 3,
     BROKEN_RECORD = 15,
     NO_RIGHT_PART = 16,
-    RECORDS_DONT_TILE = 17
+    RECORDS_DONT_TILE = 17,
+    NOT_CLOSED = 18,
+    LETTER_OUTSIDE = 19
 };
 
-/* A string, which stands in the line, and its map. */
+/* A string, which stands in the line, with its map and the flags of its alphabet; whether a letter is its own partner is found out. */
 typedef struct {
     const uint8_t *letters;
     unsigned n;
     const uint8_t *partner;
+    const uint8_t *flags;
+    bool own_partner;
 } Text;
 
 typedef struct {
@@ -29,12 +33,14 @@ typedef struct {
     unsigned start, length, errors;
 } Part;
 
-/* ---- Maps ---- */
+/* ---- Maps and alphabets ---- */
 
-static uint8_t plain_map[256], complement_map[256];
+static uint8_t plain_map[256], complement_map[256], all_bytes[256], bases[256];
 
-/* Once at the start, so that no line pays for a map. */
+/* Once at the start, so that no line pays for a map or an alphabet. */
 static void make_maps(void) {
+    memset(all_bytes, 1, sizeof all_bytes);
+    bases['A'] = bases['C'] = bases['G'] = bases['T'] = 1;
     for (unsigned byte = 0; byte < 256; byte++)
         plain_map[byte] = complement_map[byte] = (uint8_t)byte;
     complement_map['A'] = 'T';
@@ -53,6 +59,8 @@ static inline bool pairs(const Text *text, unsigned first, unsigned last) {
  * Errors only grow outward from the centre, so the first pair too many ends the search. */
 static inline Part maximal_part(const Text *text, unsigned d, unsigned centre) {
     Part part = {.is_piece = true};
+    if (centre % 2 == 0 && !text->own_partner)
+        return part;
     unsigned n = text->n, errors = 0;
     unsigned first = centre / 2, last = centre - first; /* the innermost pair, or the middle letter alone */
     while (last < n) {
@@ -83,11 +91,36 @@ static bool is_own_inverse(const uint8_t *partner) {
     return true;
 }
 
-/* 2 cannot occur: both maps have 256 bytes. */
+static bool is_closed(const uint8_t *flags, const uint8_t *partner) {
+    for (unsigned byte = 0; byte < 256; byte++)
+        if (flags[byte] && !flags[partner[byte]])
+            return false;
+    return true;
+}
+
+static bool is_spelt(const Text *text) {
+    for (unsigned k = 0; k < text->n; k++)
+        if (!text->flags[text->letters[k]])
+            return false;
+    return true;
+}
+
+static bool has_own_partner(const uint8_t *flags, const uint8_t *partner) {
+    for (unsigned byte = 0; byte < 256; byte++)
+        if (flags[byte] && partner[byte] == byte)
+            return true;
+    return false;
+}
+
+/* 2 cannot occur: both maps have 256 bytes, and so have the flags. */
 static unsigned refusal_of_opening(Limits limits, const Text *text) {
     if (text->n > LETTERS)
         return TOO_MANY_LETTERS;
-    return is_own_inverse(text->partner) ? refusal_of_limits(limits) : NOT_ITS_INVERSE;
+    if (!is_own_inverse(text->partner))
+        return NOT_ITS_INVERSE;
+    if (!is_closed(text->flags, text->partner))
+        return NOT_CLOSED;
+    return is_spelt(text) ? refusal_of_limits(limits) : LETTER_OUTSIDE;
 }
 
 /* ---- The second question: do the records agree with the string? ---- */
@@ -140,10 +173,11 @@ static bool parts_tile(unsigned n, unsigned g, const uint8_t *file, const uint8_
 }
 
 /* A record that is no right part goes before records that don't tile, so all are judged first. */
-static unsigned refusal_of_file(const Text *text, Limits limits, const uint8_t *file, size_t length) {
+static unsigned refusal_of_file(Text *text, Limits limits, const uint8_t *file, size_t length) {
     unsigned refusal = refusal_of_opening(limits, text);
     if (refusal != 0)
         return refusal;
+    text->own_partner = has_own_partner(text->flags, text->partner);
     if (length % RECORD_BYTES != 0)
         return BROKEN_RECORD;
     if (!are_right_parts(text, limits, file, file + length))
@@ -153,13 +187,22 @@ static unsigned refusal_of_file(const Text *text, Limits limits, const uint8_t *
 
 /* ---- The line ---- */
 
-/* A space and the byte of a map. Inspect's wrong maps, S and X, are not known here. */
+/* A space and the byte of a map. Inspect's further maps, S, X and Y, are not known here. */
 static bool take_map(Cursor *cursor, const uint8_t **partner) {
     uint8_t map;
     if (!take_space(cursor) || !take_byte(cursor, &map))
         return false;
     *partner = map == 'C' ? complement_map : plain_map;
     return map == 'I' || map == 'C';
+}
+
+/* A space and the byte of an alphabet, all bytes or the four bases. */
+static bool take_alphabet(Cursor *cursor, const uint8_t **flags) {
+    uint8_t alphabet;
+    if (!take_space(cursor) || !take_byte(cursor, &alphabet))
+        return false;
+    *flags = alphabet == 'D' ? bases : all_bytes;
+    return alphabet == '*' || alphabet == 'D';
 }
 
 /* A space and the rest of the line. */
@@ -195,8 +238,8 @@ static bool answer_file(Cursor *cursor) {
     size_t length;
     Limits limits;
     Text text;
-    if (!take_limits(cursor, &limits) || !take_map(cursor, &text.partner) || !take_file(cursor, file, &length) ||
-        !take_string(cursor, &text))
+    if (!take_limits(cursor, &limits) || !take_map(cursor, &text.partner) || !take_alphabet(cursor, &text.flags) ||
+        !take_file(cursor, file, &length) || !take_string(cursor, &text))
         return false;
     unsigned number = refusal_of_file(&text, limits, file, length);
     put_line('Y', &number, 1);

@@ -6,8 +6,9 @@
 
 Each COMMAND runs a program under test on standard input and output. Seeded
 scripts are sent to it, and each reply is compared byte for byte with that of
-tests/second.py; where 01, request L1 or their readings settle the answer,
-also with a text written by hand. --long does ten times as much. --spoil flips
+tests/second.py; where 01, requests L1 and L2 or their readings settle the
+answer, also with a text written by hand. Scripts over maps and alphabets have
+to show all that can come of them. --long does ten times as much. --spoil flips
 one byte of each program's output, to show that the comparison can fail. The
 last line is 'N passed, M failed', and the exit status is 0 only where nothing
 failed.
@@ -25,9 +26,16 @@ import time
 
 # Keeps the tests' directory free of compiled files.
 sys.dont_write_bytecode = True
+import alphabets  # noqa: E402
 import second  # noqa: E402
-from damage import (  # noqa: E402
-    OUT_OF_RANGE, RECORD, RETURN_WAYS, Returned, can_be_opened)
+from alphabet_texts import (  # noqa: E402
+    ALPHABET_LINES, ALPHABET_READINGS, CALLS_WITH_ALL_BYTES, INSPECT_EXAMPLES)
+from damage import RECORD, RETURN_WAYS, Returned  # noqa: E402
+from drawing import (  # noqa: E402
+    agreement_question, any_limits, any_string, fibonacci_word, joined,
+    parts_given, random_word, room_near, table_entries, tiling_question,
+    usual_limits)
+from selfcheck import small_strings  # noqa: E402
 from texts import (  # noqa: E402
     AGREEMENT_LINES, AGREEMENT_READINGS, EXAMPLE_12, EXAMPLE_12_START,
     EXAMPLE_INPUT, EXAMPLE_OUTPUT, LINE_READINGS, READER_READINGS,
@@ -41,16 +49,18 @@ SHOWN_BYTES = 1500
 
 class Script:
     """Lines for one run of a program, and how they are sent. The expected
-    text, or its start alone, is written by hand."""
+    text, or its start alone, is written by hand. Where there is a function
+    that finds faults in lines and replies together, it has to find none."""
 
     def __init__(self, name, lines, ended=True, sent="whole", expected=None,
-                 only_start=False):
+                 only_start=False, find_faults=None):
         self.name = name
         self.lines = list(lines)
         self.ended = ended
         self.sent = sent
         self.expected = expected
         self.only_start = only_start
+        self.find_faults = find_faults
 
     def data(self):
         end = b"\n" if self.ended and self.lines else b""
@@ -62,6 +72,11 @@ class Script:
         if self.only_start:
             return output.startswith(self.expected)
         return output == self.expected
+
+    def faults(self, replies):
+        if self.find_faults is None:
+            return []
+        return self.find_faults(self.lines, replies)
 
     def with_lines(self, lines, ended):
         return Script(self.name, lines, ended, self.sent)
@@ -292,11 +307,21 @@ def report_hand_text(program, script, whole):
     print("  second program:\n" + shown_lines(whole))
 
 
+def report_faults(program, script, seed, faults):
+    print("FAILED: %s script '%s', seed %d: what the second program's replies "
+          "show" % (program.name, script.name, seed))
+    print("\n".join("    " + fault for fault in faults))
+
+
 def passes(program, script, seed):
     replies = program.expected_replies(script)
     whole = b"".join(replies)
     if not script.fits_hand_text(whole):
         report_hand_text(program, script, whole)
+        return False
+    faults = script.faults(replies)
+    if faults:
+        report_faults(program, script, seed, faults)
         return False
     output, trouble = program.run(script, replies)
     if trouble is None and output == whole:
@@ -358,79 +383,7 @@ def input_end_scripts():
     ]
 
 
-# Strings.
-
-def random_word(source, alphabet, length):
-    return bytes(source.choices(alphabet, k=length))
-
-
-def repeated_word(source, alphabet, length):
-    word = random_word(source, alphabet, source.randrange(1, 7))
-    return (word * (length + 1))[:length]
-
-
-def fibonacci_word(length, first=b"A", other=b"C"):
-    shorter, longer = first, first + other
-    while len(longer) < length:
-        shorter, longer = longer, longer + shorter
-    return longer[:length]
-
-
-def folded_word(source, alphabet, length):
-    """Palindromes of both maps with a few wrong letters, end to end."""
-    word = b""
-    while len(word) < length:
-        arm = random_word(source, alphabet, source.randrange(1, 9))
-        partner_map = source.choice(
-            [second.PLAIN_MAP, second.COMPLEMENT_MAP])
-        word += arm + arm[::-1].translate(partner_map)
-        word += random_word(source, alphabet, source.choice([0, 0, 1, 2, 5]))
-    letters = bytearray(word[:length])
-    for _ in range(length // 12):
-        letters[source.randrange(length)] = source.choice(alphabet)
-    return bytes(letters)
-
-
-def any_string(source, length):
-    alphabet = source.choice([b"AC", b"AT", b"ACG", b"ACGT", b"ACGTN"])
-    sort = source.randrange(6)
-    if sort == 0:
-        return repeated_word(source, alphabet, length)
-    if sort == 1:
-        return fibonacci_word(length, *source.choice(
-            [(b"A", b"C"), (b"A", b"T"), (b"C", b"G")]))
-    if sort == 2:
-        return folded_word(source, alphabet, length)
-    if sort == 3 and length < 40:
-        # Spaces, CR, NUL and bytes from 128 on are letters too.
-        return random_word(source, b"AT \r\0\x80\xff", length)
-    return random_word(source, alphabet, length)
-
-
 # Limits and lines of the call program.
-
-def usual_limits(source):
-    kind = source.choice([1, 2])
-    m = source.choice([1, 1, 2, 2, 3, 4, 6])
-    g = source.choice([0, 0, 1, 1, 2, 3, 5, 15])
-    d = source.choice([0, 0, 1, 1, 2, 3, 15]) if kind == 2 else 0
-    return [kind, m, g, d]
-
-
-def any_limits(source):
-    limits = usual_limits(source)
-    while source.random() < 0.15:
-        which = source.randrange(4)
-        limits[which] = source.choice(OUT_OF_RANGE[which])
-    if source.random() < 0.05:
-        limits[1] = source.choice([999, 1000])
-    return limits
-
-
-def joined(*fields):
-    return b" ".join(field if isinstance(field, bytes)
-                     else str(field).encode("ascii") for field in fields)
-
 
 def opening(limits, map_name, string):
     return joined(b"O", *limits, map_name, string)
@@ -612,7 +565,7 @@ def small_string_lines(source):
 def every_small_string(alphabet, map_name):
     def lines_from(source):
         lines = []
-        for string in second.small_strings(alphabet, 6):
+        for string in small_strings(alphabet, 6):
             lines += many_limits(source, string, map_name, 6)
         return lines
     return lines_from
@@ -719,46 +672,26 @@ def call_scripts(seed, times):
     yield from noise_scripts(seed, 4000000 if times > 1 else 100000)
     yield from arrival_scripts(
         seed, lambda s: random_call(s, 150, SHORT_LENGTHS))
+    yield from hand_scripts("L2 reading", CALLS_WITH_ALL_BYTES)
 
 
-# Lines and groups of scripts for the inspect program.
+# Lines and groups of scripts for the inspect program. Those over alphabets are
+# in alphabets.py; the alphabet of all others is all 256 bytes.
 
 def any_inspect_map(source):
     return source.choice([b"I", b"C", b"I", b"C", b"I", b"C", b"S", b"X"])
 
 
-def room_near(source, needed):
-    """Exact, one short, none, or larger than needed."""
-    rooms = [needed, needed, needed, needed - 1, 0, needed + 1, needed + 7]
-    return min(9999, max(0, source.choice(rooms)))
-
-
-def parts_given(string, map_name, limits):
-    """None where the opening is refused or no tiling exists."""
-    if not can_be_opened(string, map_name, limits):
-        return None
-    return second.tile(
-        string, second.INSPECT_MAPS[map_name], tuple(limits))[0]
-
-
-def room_for_parts(string, map_name, limits):
-    """Bytes that the parts need; any room will do where none are given."""
-    parts = parts_given(string, map_name, limits)
-    return 6 if parts is None else 6 * len(parts)
-
-
 def tiling_line(source, string):
     letter = source.choice([b"T", b"S"])
     limits, map_name = any_limits(source), any_inspect_map(source)
-    table = room_near(source, (len(string) + 1) * (limits[2] + 1))
-    room = room_near(source, room_for_parts(string, map_name, limits))
-    return joined(letter, *limits, map_name, table, room, string)
+    return tiling_question(source, letter, limits, map_name, b"*", string)
 
 
 def centres_line(source, string):
     d = source.choice([0, 0, 1, 1, 2, 3, 5, 15, 16, 256, 9999])
     entries = room_near(source, 2 * len(string) - 1)
-    return joined(b"C", d, any_inspect_map(source), entries, string)
+    return joined(b"C", d, any_inspect_map(source), b"*", entries, string)
 
 
 def longest_line(source, string):
@@ -772,31 +705,27 @@ def longer_line(source, string):
     return joined(b"W", any_inspect_map(source), first, string)
 
 
-# Part files beside the string, map and limits that they return with.
+# Part files beside the string, map, alphabet and limits that they return with.
 
 def step_question(place, file):
     return joined(b"F", place, file.hex())
 
 
-def agreement_question(returned):
-    return joined(b"Y", *returned.limits, returned.map_name,
-                  returned.file.hex(), returned.string)
-
-
 def writing_question(returned):
     """The tiling question that writes the very file, with just enough lent."""
-    limits, map_name, string, file = returned
-    table = (len(string) + 1) * (limits[2] + 1)
-    return joined(b"T", *limits, map_name, table, len(file), string)
+    limits, map_name, alphabet, string, file = returned
+    return joined(b"T", *limits, map_name, alphabet,
+                  table_entries(string, limits[2]), len(file), string)
 
 
 def file_beside(source, string):
     """The file of the tiling, or one gap where there is none."""
     limits, map_name = any_limits(source), any_inspect_map(source)
-    parts = parts_given(string, map_name, limits)
+    parts = parts_given(string, map_name, b"*", limits)
     if parts is None:
         parts = [(second.GAP, 0, len(string), 0)]
-    returned = Returned(limits, map_name, string, second.records_of(parts))
+    returned = Returned(limits, map_name, b"*", string,
+                        second.records_of(parts))
     if source.random() < 0.5:
         returned = source.choice(RETURN_WAYS)(source, returned) or returned
     return returned
@@ -842,12 +771,12 @@ def long_inspection_lines(source):
         string = any_string(source, source.choice([1000, 998]))
         kind = source.choice([1, 2])
         d = source.choice([0, 2, 15]) if kind == 2 else 0
-        needed = (len(string) + 1) * (g + 1)
+        needed = table_entries(string, g)
         for table in (needed, needed - 1, min(9999, needed + 5)):
             lines.append(joined(
                 source.choice([b"T", b"S"]), kind, source.choice([1, 3, 6]), g,
-                d, any_map(source), table, source.choice([6000, 3000, 5]),
-                string))
+                d, any_map(source), b"*", table,
+                source.choice([6000, 3000, 5]), string))
         lines += [centres_line(source, string), longest_line(source, string),
                   longer_line(source, string)]
     return lines
@@ -856,17 +785,17 @@ def long_inspection_lines(source):
 def too_long_strings(source):
     """1,000 letters and more, up to and past the line's own bound."""
     lines = []
-    for length in (1000, 1001, 1002, 1016, 1024, 1025, 1030, 1035, 1036, 1037):
+    for length in (1000, 1001, 1002, 1016, 1022, 1023, 1025, 1030, 1036, 1037):
         string = b"A" * length
         map_name = any_inspect_map(source)
         lines += [
-            joined(source.choice([b"T", b"S"]), 1, 1, 0, 0, map_name,
+            joined(source.choice([b"T", b"S"]), 1, 1, 0, 0, map_name, b"*",
                    0, 0, string),
-            joined(b"C", source.choice([0, 16]), map_name, 3, string),
+            joined(b"C", source.choice([0, 16]), map_name, b"*", 3, string),
             joined(b"P", map_name, string),
             joined(b"W", map_name, source.choice([0, 1, 30, 1000, 1001]),
                    string),
-            joined(b"Y", 1, 1, 0, 0, map_name,
+            joined(b"Y", 1, 1, 0, 0, map_name, b"*",
                    source.choice([b"", b"00", b"5000000003e8"]), string)]
     return lines
 
@@ -909,10 +838,10 @@ def returned_file(source, drawn_case):
     """
     while True:
         limits, map_name, string = drawn_case(source)
-        parts = parts_given(string, map_name, limits)
+        parts = parts_given(string, map_name, b"*", limits)
         if parts is None or len(parts) < 3 and source.random() < 0.7:
             continue
-        returned = Returned(limits, map_name, string,
+        returned = Returned(limits, map_name, b"*", string,
                             second.records_of(parts))
         if len(agreement_question(returned)) <= second.MOST_LINE_BYTES:
             return returned
@@ -956,8 +885,26 @@ def returns(source, drawn_case, count):
     return lines
 
 
+def misheard_alphabets(source):
+    """Some of the lines over all maps and alphabets, each misheard."""
+    lines = source.sample(alphabets.lines_over_all_pairs(source), 150)
+    return [misheard(source, line) for line in lines]
+
+
+def alphabet_scripts(seed, times):
+    """The numbers are those of the readings of 02, L2."""
+    yield from hand_scripts("L2 reading", ALPHABET_READINGS + ALPHABET_LINES)
+    yield from many(seed, "L2 readings 3, 4, 7 and 8: all maps and alphabets",
+                    8 * times, alphabets.lines_over_all_pairs,
+                    find_faults=alphabets.find_faults)
+    yield from many(seed, "L2 readings 3, 4 and 8: returned files", 4 * times,
+                    lambda s: alphabets.returned_lines(s, 6))
+    yield from many(seed, "L2: misheard lines", 2 * times, misheard_alphabets)
+
+
 def inspect_scripts(seed, times):
     """All scripts for the inspect program."""
+    yield from hand_scripts("INSPECT.md", INSPECT_EXAMPLES)
     yield from hand_scripts("read-back sheet", READ_BACK_INSPECTIONS)
     yield from hand_scripts(
         "L1 reading", READER_READINGS + AGREEMENT_READINGS + AGREEMENT_LINES)
@@ -982,6 +929,7 @@ def inspect_scripts(seed, times):
         20000 * times), None)
     yield from arrival_scripts(
         seed, lambda s: inspection_lines(s, 80, SHORT_LENGTHS))
+    yield from alphabet_scripts(seed, times)
 
 
 def parsed_arguments():

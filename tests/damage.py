@@ -1,14 +1,15 @@
 """Part files that come back changed: ways to damage a file, or to change the
-string, map or limits beside it. Each way takes a source of chance and what
-returned, and gives that changed, or None where there is nothing to change
-so."""
+string, map, alphabet or limits beside it. Each way takes a source of chance
+and what returned, and gives that changed, or None where there is nothing to
+change so."""
 
 import collections
 import struct
 
 import second
 
-Returned = collections.namedtuple("Returned", "limits map_name string file")
+Returned = collections.namedtuple(
+    "Returned", "limits map_name alphabet string file")
 
 # First byte, errors, start, length.
 RECORD = struct.Struct(">BBHH")
@@ -41,9 +42,10 @@ OUT_OF_RANGE = [
 ]
 
 
-def can_be_opened(string, map_name, limits):
+def can_be_opened(string, map_name, alphabet, limits):
     try:
-        second.Sheet(string, second.INSPECT_MAPS[map_name], *limits)
+        second.Sheet(string, second.INSPECT_MAPS[map_name],
+                     second.ALPHABETS[alphabet], *limits)
     except second.Refusal:
         return False
     return True
@@ -198,7 +200,8 @@ def damaging(least_records, damage):
     return way
 
 
-# Ways to change the limits, the map or the string beside the file.
+# Ways to change the limits, the map, the alphabet or the string beside the
+# file.
 
 def with_limit(returned, which, value):
     limits = list(returned.limits)
@@ -245,6 +248,16 @@ def other_map(source, returned):
     return returned._replace(map_name=source.choice(others))
 
 
+def map_without_own_partners(_source, returned):
+    return None if returned.map_name == b"Y" else \
+        returned._replace(map_name=b"Y")
+
+
+def other_alphabet(source, returned):
+    others = [name for name in second.ALPHABETS if name != returned.alphabet]
+    return returned._replace(alphabet=source.choice(others))
+
+
 def wrong_limit(source, returned):
     which = source.randrange(4)
     return with_limit(returned, which, source.choice(OUT_OF_RANGE[which]))
@@ -289,11 +302,12 @@ def any_spans(source, ends, least, no_gap_first):
 
 def other_tiling(source, returned):
     """The file of another permitted tiling, where one is found."""
-    limits, map_name, string, file = returned
-    if not can_be_opened(string, map_name, limits):
+    limits, map_name, alphabet, string, file = returned
+    if not can_be_opened(string, map_name, alphabet, limits):
         return None
     letter_map = second.INSPECT_MAPS[map_name]
-    ends = second.piece_ends(string, letter_map, limits)
+    ends = second.piece_ends(
+        string, letter_map, second.ALPHABETS[alphabet], limits)
     least, no_gap_first = second.least_totals(ends, limits[2])
     if least[-1][0] >= second.ENDLESS:
         return None
@@ -311,6 +325,11 @@ def two_ways(source, returned):
     for ways in (SINGLE_WAYS, FILE_WAYS):
         returned = source.choice(ways)(source, returned) or returned
     return returned
+
+
+def other_alphabet_and_file(source, returned):
+    changed = other_alphabet(source, returned)
+    return source.choice(FILE_WAYS)(source, changed) or changed
 
 
 def with_loose_bytes(source, returned):
@@ -332,3 +351,5 @@ SINGLE_WAYS = FILE_WAYS + [
     lowered_g, raised_m, other_kind, other_d, other_map, wrong_limit,
     changed_letter, changed_length, other_tiling]
 RETURN_WAYS = SINGLE_WAYS + 6 * [two_ways] + 3 * [with_loose_bytes]
+ALPHABET_WAYS = RETURN_WAYS + 3 * [other_alphabet] + [
+    map_without_own_partners, other_alphabet_and_file]

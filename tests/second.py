@@ -1,8 +1,8 @@
 #!/usr/bin/env python3
 """An independent second program for the call program and for inspection.
 
-Written from the build description (01), from request L1 (02) and from how
-docs/DECISIONS.md reads them, by the definitions, so that it shares no code
+Written from the build description (01), from requests L1 and L2 (02) and from
+how docs/DECISIONS.md reads them, by the definitions, so that it shares no code
 with the program that it is compared with.
 
     python3 tests/second.py call        answers the call program's lines
@@ -10,11 +10,10 @@ with the program that it is compared with.
     python3 tests/second.py self-check  compares its two ways of each question
 
 Short strings are tiled by brute force over all permitted tilings, longer ones
-by a plain table. The self-check shows that both ways agree, and that a part
-file is judged to be a permitted tiling exactly when it is the file of one of
-all permitted tilings.
+by a plain table. The self-check (selfcheck.py) shows that both ways agree.
 """
 
+import functools
 import itertools
 import sys
 
@@ -38,10 +37,23 @@ PLAIN_MAP = bytes(range(256))
 COMPLEMENT_MAP = PLAIN_MAP.translate(bytes.maketrans(b"ATCG", b"TAGC"))
 SHORT_MAP = PLAIN_MAP[:255]
 SHIFTED_MAP = PLAIN_MAP[1:] + PLAIN_MAP[:1]
+# Neighbours are partners: no byte is its own.
+PAIRED_MAP = bytes(x ^ 1 for x in range(256))
 
 CALL_MAPS = {b"I": PLAIN_MAP, b"C": COMPLEMENT_MAP}
-INSPECT_MAPS = {b"I": PLAIN_MAP, b"C": COMPLEMENT_MAP,
-                b"S": SHORT_MAP, b"X": SHIFTED_MAP}
+INSPECT_MAPS = {b"I": PLAIN_MAP, b"C": COMPLEMENT_MAP, b"S": SHORT_MAP,
+                b"X": SHIFTED_MAP, b"Y": PAIRED_MAP}
+
+
+def alphabet_of(letters):
+    """256 flags, one for each byte: 0 out, else in."""
+    return bytes(1 if x in letters else 0 for x in range(256))
+
+
+ALL_BYTES = alphabet_of(range(256))
+ALPHABETS = {b"*": ALL_BYTES, b"D": alphabet_of(b"ACGT"),
+             b"N": alphabet_of(b"ACGTN"), b"O": alphabet_of(b"ACG"),
+             b"S": ALL_BYTES[:255], b"E": alphabet_of(b"")}
 
 
 class Refusal(Exception):
@@ -70,6 +82,20 @@ def error_count(span, letter_map):
     return unequal_pairs + (1 if odd_middle else 0)
 
 
+@functools.lru_cache(maxsize=None)
+def has_own_partner(letter_map, alphabet):
+    """Whether some letter of the alphabet is its own partner."""
+    return any(alphabet[x] != 0 and letter_map[x] == x for x in range(256))
+
+
+def is_d_palindrome(span, letter_map, alphabet, d):
+    """Where no letter of the alphabet can stand in the middle, a span of odd
+    length is none at any d."""
+    if len(span) % 2 == 1 and not has_own_partner(letter_map, alphabet):
+        return False
+    return error_count(span, letter_map) <= d
+
+
 def spans_at_centre(letters, centre):
     """All spans (start, length) with first place + last place = centre."""
     for first in range(len(letters)):
@@ -78,14 +104,16 @@ def spans_at_centre(letters, centre):
             yield first, last - first + 1
 
 
-def maximal_length_by_definition(letters, letter_map, centre, d):
+def maximal_length_by_definition(letters, letter_map, alphabet, centre, d):
     lengths = [length for start, length in spans_at_centre(letters, centre)
-               if error_count(letters[start:start + length], letter_map) <= d]
+               if is_d_palindrome(letters[start:start + length], letter_map,
+                                  alphabet, d)]
     return max(lengths, default=0)
 
 
-def maximal_length(letters, letter_map, centre, d):
-    """Grows outward from the centre: a longer span never has fewer errors."""
+def grown_length(letters, letter_map, centre, d):
+    """The longest span of a centre with at most d errors. Grows outward: a
+    longer span never has fewer errors."""
     first, last = centre // 2, (centre + 1) // 2
     errors, longest = 0, 0
     while first >= 0 and last < len(letters):
@@ -98,8 +126,21 @@ def maximal_length(letters, letter_map, centre, d):
     return longest
 
 
-def maximal_lengths(letters, letter_map, d):
-    return [maximal_length(letters, letter_map, centre, d)
+def exact_lengths(letters, letter_map):
+    """The longest exact palindromes of all centres; no alphabet is asked."""
+    return [grown_length(letters, letter_map, centre, 0)
+            for centre in range(2 * len(letters) - 1)]
+
+
+def maximal_length(letters, letter_map, alphabet, centre, d):
+    """The spans of an even centre are all of odd length."""
+    if centre % 2 == 0 and not has_own_partner(letter_map, alphabet):
+        return 0
+    return grown_length(letters, letter_map, centre, d)
+
+
+def maximal_lengths(letters, letter_map, alphabet, d):
+    return [maximal_length(letters, letter_map, alphabet, centre, d)
             for centre in range(2 * len(letters) - 1)]
 
 
@@ -109,7 +150,7 @@ def start_of_span(centre, length):
 
 # Brute force over all tilings. A part is (sort, start, length, errors).
 
-def is_piece(letters, letter_map, limits, start, length, longest_at):
+def is_piece(letters, letter_map, alphabet, limits, start, length, longest_at):
     """Whether a span inside the string is a piece; longest_at is one of the
     two ways to the maximal length of a centre."""
     kind, m, _, d = limits
@@ -118,17 +159,17 @@ def is_piece(letters, letter_map, limits, start, length, longest_at):
     if kind == 1:
         return is_exact_palindrome(letters[start:start + length], letter_map)
     centre = start + (start + length - 1)
-    return length == longest_at(letters, letter_map, centre, d)
+    return length == longest_at(letters, letter_map, alphabet, centre, d)
 
 
-def pieces_by_definition(letters, letter_map, limits):
+def pieces_by_definition(letters, letter_map, alphabet, limits):
     """For each start the pieces of the whole string that begin there."""
     count = len(letters)
     return [
         [(PIECE, start, length,
           error_count(letters[start:start + length], letter_map))
          for length in range(1, count - start + 1)
-         if is_piece(letters, letter_map, limits, start, length,
+         if is_piece(letters, letter_map, alphabet, limits, start, length,
                      maximal_length_by_definition)]
         for start in range(count)]
 
@@ -172,10 +213,10 @@ def brute_row(tilings, g):
             for q in range(g + 1)]
 
 
-def tile_by_brute_force(letters, letter_map, limits):
+def tile_by_brute_force(letters, letter_map, alphabet, limits):
     """(parts or None, table), or None where there are too many tilings."""
     g = limits[2]
-    pieces = pieces_by_definition(letters, letter_map, limits)
+    pieces = pieces_by_definition(letters, letter_map, alphabet, limits)
     table = []
     whole = None
     for start in range(len(letters) + 1):
@@ -195,11 +236,15 @@ def tile_by_brute_force(letters, letter_map, limits):
 ENDLESS = 10 ** 6
 
 
-def piece_ends(letters, letter_map, limits):
+def piece_ends(letters, letter_map, alphabet, limits):
     """For each start the places after its pieces, longest piece first."""
     kind, m, _, d = limits
     ends = [[] for _ in letters]
-    for centre, longest in enumerate(maximal_lengths(letters, letter_map, d)):
+    if kind == 1:
+        lengths = exact_lengths(letters, letter_map)
+    else:
+        lengths = maximal_lengths(letters, letter_map, alphabet, d)
+    for centre, longest in enumerate(lengths):
         # Exact palindromes nest: all shorter spans of the centre are exact.
         shortest = longest if kind == 2 else 1
         for length in range(longest, max(shortest, m) - 1, -2):
@@ -274,9 +319,9 @@ def with_errors(spans, letters, letter_map):
         for sort, start, length in spans)
 
 
-def tile_by_table(letters, letter_map, limits):
+def tile_by_table(letters, letter_map, alphabet, limits):
     g = limits[2]
-    ends = piece_ends(letters, letter_map, limits)
+    ends = piece_ends(letters, letter_map, alphabet, limits)
     least, no_gap_first = least_totals(ends, g)
     table = [min(least[q][start], NO_TILING)
              for start in range(len(letters) + 1) for q in range(g + 1)]
@@ -286,13 +331,13 @@ def tile_by_table(letters, letter_map, limits):
     return with_errors(spans, letters, letter_map), table
 
 
-def tile(letters, letter_map, limits):
+def tile(letters, letter_map, alphabet, limits):
     """(parts or None where no tiling exists, table)."""
     if len(letters) <= BRUTE_LETTERS:
-        answer = tile_by_brute_force(letters, letter_map, limits)
+        answer = tile_by_brute_force(letters, letter_map, alphabet, limits)
         if answer is not None:
             return answer
-    return tile_by_table(letters, letter_map, limits)
+    return tile_by_table(letters, letter_map, alphabet, limits)
 
 
 # Refusals, each list in testing order.
@@ -304,6 +349,24 @@ def refuse_letters_and_map(letters, letter_map):
         raise Refusal(2)
     if any(letter_map[letter_map[x]] != x for x in range(256)):
         raise Refusal(3)
+
+
+def refuse_letter(letter, alphabet):
+    if alphabet[letter] == 0:
+        raise Refusal(19)
+
+
+def refuse_spelling(letters, letter_map, alphabet):
+    """String, map and alphabet. Closed is tested with a map that is right:
+    where a byte is in, its partner is."""
+    refuse_letters_and_map(letters, letter_map)
+    if len(alphabet) != 256:
+        raise Refusal(18)
+    if any(alphabet[x] != 0 and alphabet[letter_map[x]] == 0
+           for x in range(256)):
+        raise Refusal(18)
+    for letter in letters:
+        refuse_letter(letter, alphabet)
 
 
 def refuse_limits(kind, m, g, d):
@@ -356,8 +419,9 @@ def walked_parts(file):
     return parts
 
 
-def is_right_part(letters, letter_map, limits, part):
-    """What one part shows by itself, beside string, map and limits."""
+def is_right_part(letters, letter_map, alphabet, limits, part):
+    """What one part shows by itself, beside string, map, alphabet and
+    limits."""
     sort, start, length, errors = part
     if length == 0 or start + length > len(letters):
         return False
@@ -365,7 +429,7 @@ def is_right_part(letters, letter_map, limits, part):
         return errors == 0
     span = letters[start:start + length]
     return errors == error_count(span, letter_map) and is_piece(
-        letters, letter_map, limits, start, length, maximal_length)
+        letters, letter_map, alphabet, limits, start, length, maximal_length)
 
 
 def is_tiling(parts, count, g):
@@ -381,25 +445,25 @@ def is_tiling(parts, count, g):
     return place == count and not touching and gap_count(parts) <= g
 
 
-def refuse_file(letters, letter_map, limits, file):
+def refuse_file(letters, letter_map, alphabet, limits, file):
     """The second question: a file that isn't refused is a permitted tiling.
     All records are judged by themselves before any are judged together."""
-    refuse_letters_and_map(letters, letter_map)
+    refuse_spelling(letters, letter_map, alphabet)
     refuse_limits(*limits)
     if len(file) % BYTES_A_PART != 0:
         raise Refusal(15)
     parts = walked_parts(file)
-    if not all(is_right_part(letters, letter_map, limits, part)
+    if not all(is_right_part(letters, letter_map, alphabet, limits, part)
                for part in parts):
         raise Refusal(16)
     if not is_tiling(parts, len(letters), limits[2]):
         raise Refusal(17)
 
 
-def ask_agreement(letters, letter_map, limits, file):
+def ask_agreement(letters, letter_map, alphabet, limits, file):
     """The second question's number; 0 says yes."""
     try:
-        refuse_file(letters, letter_map, limits, file)
+        refuse_file(letters, letter_map, alphabet, limits, file)
     except Refusal as refusal:
         return refusal.number
     return 0
@@ -408,13 +472,16 @@ def ask_agreement(letters, letter_map, limits, file):
 # The sheet.
 
 class Sheet:
-    """One string and its limits during a call, with the two lists."""
+    """One string, its alphabet and its limits during a call, with the two
+    lists. Every sheet here comes from an opening and is changed by its calls
+    alone, so refusal 24, which goes before all others, never holds."""
 
-    def __init__(self, letters, letter_map, kind, m, g, d):
-        refuse_letters_and_map(letters, letter_map)
+    def __init__(self, letters, letter_map, alphabet, kind, m, g, d):
+        refuse_spelling(letters, letter_map, alphabet)
         refuse_limits(kind, m, g, d)
         self.letters = list(letters)
         self.letter_map = letter_map
+        self.alphabet = alphabet
         self.limits = (kind, m, g, d)
         self.standing = []
         self.taken_back = []
@@ -422,6 +489,7 @@ class Sheet:
     def change_letter(self, place, letter):
         if place >= len(self.letters):
             raise Refusal(6)
+        refuse_letter(letter, self.alphabet)
         self.refuse_when_full()
         return self.accept(("L", place, self.letters[place], letter))
 
@@ -496,10 +564,11 @@ def byte_from(field):
     return value
 
 
-def map_from(field, known_maps):
-    if field not in known_maps:
+def named_by(field, known):
+    """The map or the alphabet of that name, or refusal 13."""
+    if field not in known:
         raise Refusal(13)
-    return known_maps[field]
+    return known[field]
 
 
 def file_from(field):
@@ -566,11 +635,11 @@ class CallProgram:
         name, kind, m, g, d, map_name, string = fields_of(
             line, 7, string_last=True)
         limits = numbers_from([kind, m, g, d])
-        letter_map = map_from(map_name, CALL_MAPS)
+        letter_map = named_by(map_name, CALL_MAPS)
         if name != b"O":
             raise Refusal(13)
         # A refusal leaves here before the former sheet is replaced.
-        self.sheet = Sheet(string, letter_map, *limits)
+        self.sheet = Sheet(string, letter_map, ALL_BYTES, *limits)
         return line_of("O", len(string), 0)
 
 
@@ -579,7 +648,8 @@ def said_back(letter, call):
 
 
 def question_lines(sheet):
-    parts, _ = tile(bytes(sheet.letters), sheet.letter_map, sheet.limits)
+    parts, _ = tile(bytes(sheet.letters), sheet.letter_map, sheet.alphabet,
+                    sheet.limits)
     if parts is None:
         raise Refusal(10)
     return line_of("Q", gap_total(parts), len(parts), gap_count(parts)) \
@@ -597,12 +667,13 @@ def room_line(letter, lent):
     return line_of(letter, *lent)
 
 
-def ask_tiling(letters, letter_map, limits, table, room):
-    """The tiling question after the opening's tests: number, total, parts
-    and gaps. Fills the lent table and room as 01 says they stand."""
-    if len(table) < (len(letters) + 1) * (limits[2] + 1):
+def ask_tiling(sheet, table, room):
+    """The tiling question of a sheet: number, total, parts and gaps. Fills
+    the lent table and room as 01 says they stand."""
+    if len(table) < (len(sheet.letters) + 1) * (sheet.limits[2] + 1):
         return 11, 0, 0, 0
-    parts, entries = tile(letters, letter_map, limits)
+    parts, entries = tile(bytes(sheet.letters), sheet.letter_map,
+                          sheet.alphabet, sheet.limits)
     fill(table, entries)
     if parts is None:
         return 10, 0, 0, 0
@@ -613,16 +684,18 @@ def ask_tiling(letters, letter_map, limits, table, room):
 
 
 def inspect_tiling(fields):
-    """T asks without a sheet, S opens a sheet and asks that."""
-    letter, kind, m, g, d, map_name, entries, room_bytes, string = fields
+    """T asks without a sheet, after the same tests; S opens a sheet and asks
+    that."""
+    (letter, kind, m, g, d, map_name, alphabet_name, entries, room_bytes,
+     string) = fields
     limits = tuple(numbers_from([kind, m, g, d]))
-    letter_map = map_from(map_name, INSPECT_MAPS)
+    letter_map = named_by(map_name, INSPECT_MAPS)
+    alphabet = named_by(alphabet_name, ALPHABETS)
     table = [LENT_FILL] * number_from(entries)
     room = [LENT_FILL] * number_from(room_bytes)
     try:
-        sheet = Sheet(string, letter_map, *limits)
-        reply = ask_tiling(
-            bytes(sheet.letters), sheet.letter_map, sheet.limits, table, room)
+        sheet = Sheet(string, letter_map, alphabet, *limits)
+        reply = ask_tiling(sheet, table, room)
     except Refusal as refusal:
         if letter == b"S":
             raise
@@ -631,11 +704,11 @@ def inspect_tiling(fields):
         + room_line("E", table) + room_line("R", room)
 
 
-def ask_centres(letters, letter_map, d, lent):
-    refuse_letters_and_map(letters, letter_map)
+def ask_centres(letters, letter_map, alphabet, d, lent):
+    refuse_spelling(letters, letter_map, alphabet)
     if d > MOST_ERRORS:
         raise Refusal(5)
-    lengths = maximal_lengths(letters, letter_map, d)
+    lengths = maximal_lengths(letters, letter_map, alphabet, d)
     if len(lent) < len(lengths):
         raise Refusal(11)
     fill(lent, lengths)
@@ -643,12 +716,13 @@ def ask_centres(letters, letter_map, d, lent):
 
 
 def inspect_centres(fields):
-    _, d, map_name, entries, string = fields
+    _, d, map_name, alphabet_name, entries, string = fields
     d = number_from(d)
-    letter_map = map_from(map_name, INSPECT_MAPS)
+    letter_map = named_by(map_name, INSPECT_MAPS)
+    alphabet = named_by(alphabet_name, ALPHABETS)
     lent = [LENT_FILL] * number_from(entries)
     try:
-        reply = 0, ask_centres(string, letter_map, d, lent)
+        reply = 0, ask_centres(string, letter_map, alphabet, d, lent)
     except Refusal as refusal:
         reply = refusal.number, 0
     return line_of("C", *reply) + room_line("E", lent)
@@ -665,7 +739,7 @@ def longest_palindrome_by_definition(letters, letter_map):
 
 
 def longest_palindrome(letters, letter_map):
-    lengths = maximal_lengths(letters, letter_map, 0)
+    lengths = exact_lengths(letters, letter_map)
     longest = max(lengths, default=0)
     if longest == 0:
         return 0, 0
@@ -690,7 +764,7 @@ def part_lines(letter, number, part):
 
 def inspect_longest(fields):
     _, map_name, string = fields
-    letter_map = map_from(map_name, INSPECT_MAPS)
+    letter_map = named_by(map_name, INSPECT_MAPS)
     try:
         refuse_letters_and_map(string, letter_map)
     except Refusal as refusal:
@@ -700,7 +774,7 @@ def inspect_longest(fields):
 
 def inspect_longer(fields):
     _, map_name, count, string = fields
-    letter_map = map_from(map_name, INSPECT_MAPS)
+    letter_map = named_by(map_name, INSPECT_MAPS)
     count = number_from(count)
     if count > len(string):
         raise Refusal(13)
@@ -728,22 +802,24 @@ def inspect_step(fields):
 
 
 def inspect_agreement(fields):
-    """Y asks whether the records agree with string, map and limits."""
-    _, kind, m, g, d, map_name, file, string = fields
+    """Y asks whether the records agree with string, map, alphabet and
+    limits."""
+    _, kind, m, g, d, map_name, alphabet_name, file, string = fields
     limits = tuple(numbers_from([kind, m, g, d]))
-    letter_map = map_from(map_name, INSPECT_MAPS)
+    letter_map = named_by(map_name, INSPECT_MAPS)
+    alphabet = named_by(alphabet_name, ALPHABETS)
     return line_of("Y", ask_agreement(
-        string, letter_map, limits, file_from(file)))
+        string, letter_map, alphabet, limits, file_from(file)))
 
 
 INSPECT_LINES = {
-    b"T": (9, inspect_tiling),
-    b"S": (9, inspect_tiling),
-    b"C": (5, inspect_centres),
+    b"T": (10, inspect_tiling),
+    b"S": (10, inspect_tiling),
+    b"C": (6, inspect_centres),
     b"P": (3, inspect_longest),
     b"W": (4, inspect_longer),
     b"F": (3, inspect_step),
-    b"Y": (8, inspect_agreement),
+    b"Y": (9, inspect_agreement),
 }
 
 
@@ -761,175 +837,6 @@ class InspectProgram:
             return refusal_line(refusal.number).encode("ascii")
 
 
-# The self-check: both ways of each question must agree.
-
-def small_strings(alphabet, most):
-    for length in range(most + 1):
-        for letters in itertools.product(alphabet, repeat=length):
-            yield bytes(letters)
-
-
-def small_limits():
-    for kind, m, g, d in itertools.product(
-            (1, 2), (1, 2, 3), (0, 1, 2, 3), (0, 1, 2)):
-        if kind == 2 or d == 0:
-            yield kind, m, g, d
-
-
-def must_agree(what, case, one, other):
-    if one != other:
-        sys.exit("self-check FAILED: %s of %r: %r and %r"
-                 % (what, case, one, other))
-
-
-def check_tiling(letters, letter_map, limits):
-    brute = tile_by_brute_force(letters, letter_map, limits)
-    if brute is None:
-        return 0
-    parts, table = tile_by_table(letters, letter_map, limits)
-    case = letters, letter_map == PLAIN_MAP, limits
-    must_agree("table", case, brute[1], table)
-    must_agree("parts", case, brute[0], parts)
-    total = NO_TILING if parts is None else gap_total(parts)
-    must_agree("total", case, total, table[limits[2]])
-    return 1
-
-
-def check_palindromes(letters, letter_map):
-    must_agree("longest", letters, longest_palindrome(letters, letter_map),
-               longest_palindrome_by_definition(letters, letter_map))
-    for d in range(3):
-        must_agree("centres", letters, maximal_lengths(letters, letter_map, d),
-                   [maximal_length_by_definition(letters, letter_map, c, d)
-                    for c in range(2 * len(letters) - 1)])
-
-
-def right_records(pieces):
-    """The records of all pieces and of all gaps inside the string."""
-    count = len(pieces)
-    gaps = [(GAP, start, length, 0) for start in range(count)
-            for length in range(1, count - start + 1)]
-    return {record_of(part) for part in itertools.chain(gaps, *pieces)}
-
-
-def agreement_by_lookup(file, whole_files, records):
-    """The second question's number after the opening's: the file is looked up
-    among those of all permitted tilings, its records among all right ones."""
-    if file in whole_files:
-        return 0
-    if len(file) % BYTES_A_PART != 0:
-        return 15
-    places = range(0, len(file), BYTES_A_PART)
-    known = all(file[k:k + BYTES_A_PART] in records for k in places)
-    return 17 if known else 16
-
-
-def any_cover(random_source, pieces):
-    """Right parts from 0 up to the end; gaps may touch or be too many."""
-    parts, place = [], 0
-    while place < len(pieces):
-        gaps = [(GAP, place, length, 0)
-                for length in range(1, len(pieces) - place + 1)]
-        parts.append(random_source.choice(
-            random_source.choice([gaps, pieces[place] or gaps])))
-        place += parts[-1][2]
-    return parts
-
-
-def damaged(random_source, file):
-    """Records left out, doubled or in another order, the tail cut, or a byte
-    written over."""
-    first, last = sorted(
-        BYTES_A_PART * random_source.randrange(len(file) // BYTES_A_PART + 1)
-        for _ in range(2))
-    place = random_source.randrange(len(file) + 1)
-    byte = random_source.choice([0, 1, 2, 3, 71, 80, 255])
-    return random_source.choice([
-        file[:first] + file[last:], file[:last] + file[first:],
-        file[first:last] + file[:first] + file[last:], file[:place],
-        file[:place] + bytes([byte]) + file[place + 1:]])
-
-
-def check_walk(tiling, file):
-    for index, part in enumerate(tiling):
-        place = BYTES_A_PART * index
-        must_agree("reader", (file, place), read_part(file, place),
-                   (part, place + BYTES_A_PART))
-    must_agree("reader's end", file, read_part(file, len(file)), None)
-
-
-def check_files(random_source, letters, letter_map, limits, rounds):
-    """Whole files and damaged ones of one string."""
-    pieces = pieces_by_definition(letters, letter_map, limits)
-    tilings = list(itertools.islice(
-        all_tilings(pieces, 0, limits[2]), BRUTE_TILINGS + 1))
-    if len(tilings) > BRUTE_TILINGS:
-        return 0
-    whole_files = {records_of(tiling): tiling for tiling in tilings}
-    for file, tiling in whole_files.items():
-        check_walk(tiling, file)
-    records = right_records(pieces)
-    files = random_source.sample(sorted(whole_files),
-                                 min(rounds, len(whole_files)))
-    files += [records_of(any_cover(random_source, pieces))
-              for _ in range(rounds)]
-    # Damaged once, and then some of them again, so that refusals meet.
-    for _ in range(2):
-        files += [damaged(random_source, file) for file in files]
-    for file in files:
-        must_agree("agreement", (letters, letter_map == PLAIN_MAP, limits,
-                                 file),
-                   agreement_by_lookup(file, whole_files, records),
-                   ask_agreement(letters, letter_map, limits, file))
-    return len(files)
-
-
-def check_every_small_string():
-    count = 0
-    for alphabet, letter_map in ((b"AC", PLAIN_MAP), (b"AT", COMPLEMENT_MAP),
-                                 (b"AN", COMPLEMENT_MAP)):
-        for letters in small_strings(alphabet, 6):
-            check_palindromes(letters, letter_map)
-            for limits in small_limits():
-                count += check_tiling(letters, letter_map, limits)
-    return count
-
-
-def any_case(random_source, lengths, most_m):
-    """A string, a map and limits that an opening accepts."""
-    letter_map = random_source.choice([PLAIN_MAP, COMPLEMENT_MAP])
-    alphabet = random_source.choice([b"AC", b"AT", b"ACN", b"ACGT"])
-    length = random_source.choice(lengths)
-    letters = bytes(random_source.choices(alphabet, k=length))
-    kind = random_source.choice([1, 2])
-    d = random_source.randrange(4) if kind == 2 else 0
-    m = random_source.randrange(1, most_m + 1)
-    return letters, letter_map, (kind, m, random_source.randrange(5), d)
-
-
-def check_random_strings(random_source, rounds):
-    count = 0
-    for _ in range(rounds):
-        letters, letter_map, limits = any_case(random_source, range(6, 12), 5)
-        check_palindromes(letters, letter_map)
-        count += check_tiling(letters, letter_map, limits)
-    return count
-
-
-def check_random_files(random_source, rounds):
-    return sum(check_files(random_source, *any_case(
-        random_source, range(10), 3), 6) for _ in range(rounds))
-
-
-def self_check():
-    import random
-    random_source = random.Random(1)
-    count = check_every_small_string()
-    count += check_random_strings(random_source, 600)
-    file_count = check_random_files(random_source, 1500)
-    print("self-check: %d tilings and %d files agree" % (count, file_count))
-
-
 def run_lines(program):
     for line in sys.stdin.buffer:
         if line.endswith(b"\n"):
@@ -944,7 +851,10 @@ def main(arguments):
     elif arguments == ["inspect"]:
         run_lines(InspectProgram())
     elif arguments == ["self-check"]:
-        self_check()
+        # Keeps the tests' directory free of compiled files.
+        sys.dont_write_bytecode = True
+        import selfcheck
+        selfcheck.run()
     else:
         sys.exit("usage: second.py call | inspect | self-check")
 

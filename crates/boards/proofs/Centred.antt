@@ -19,7 +19,7 @@ module _ (x : Text) (l : Limits) (sound : SoundText x) (limited : SoundLimits l)
   pub piece-short : l .kind ≡ 1 → Piece x l a L → L ≤ r
   piece-short e p =
       ⊎-elim
-      (λ (w : (l .kind ≡ 1) × ExactPalindrome (x .letters) (x .map) a L). most .longest a L (subst (λ (d : ℕ). DPalindrome x d a L) (sym (limited .exact e)) (exact-pal x a L (w .1))) (omega arith))
+      (λ (w : (l .kind ≡ 1) × ExactPalindrome (x .letters) (x .map) a L). most .longest a L (subst (λ (d : ℕ). DPalindrome x d a L) (sym (limited .exact e)) (exact-pal x sound a L (w .1))) (omega arith))
       (λ (w : (l .kind ≡ 2) × Maximal x (l .d) a L). absurd (omega (arith, w .0)))
       (p .is)
 

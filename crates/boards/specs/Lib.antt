@@ -1,2 +1,3 @@
 -- Which spans are pieces, and the board of a string.
 pub mod Pieces
+pub mod Laws

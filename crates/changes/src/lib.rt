@@ -1,4 +1,5 @@
 // Changes to a sheet: all go through one edit, made or taken back.
+use terms::alphabets::is_in;
 use terms::limits::Limits;
 ghost use mathlib.Core.Path.{_≡_};
 ghost use Rattle.changes.specs.Changes.{doneOf, backOf, accepts, acceptsChange};
@@ -16,12 +17,17 @@ pub enum Edit {
 }
 
 impl Edit {
-    // Whether its call would accept the edit, on n letters.
-    pub fn accepted(self, n: usize) -> bool
-        ensures { λ r. ⌜ r ≡ accepts n self ⌝ }
+    // Whether its call would accept the edit, on n letters of the alphabet.
+    pub fn accepted(self, n: usize, alphabet: &[u8]) -> bool
+        ensures { λ r. ⌜ r ≡ accepts n (now (alphabet .entry)) self ⌝ }
     {
         match self {
-            Edit::Letter { place, byte: _ } => place < n,
+            Edit::Letter { place, byte } => {
+                if n <= place {
+                    return false;
+                }
+                is_in(alphabet, byte)
+            }
             Edit::Limits { limits } => limits.refusal() == 0,
         }
     }
@@ -48,15 +54,15 @@ impl Change {
         }
     }
 
-    // Whether its call would accept the change, old and new, on n letters.
-    pub fn accepted(self, n: usize) -> bool
-        ensures { λ r. ⌜ r ≡ acceptsChange n self ⌝ }
+    // Whether its call would accept the change, old and new, on n letters of the alphabet.
+    pub fn accepted(self, n: usize, alphabet: &[u8]) -> bool
+        ensures { λ r. ⌜ r ≡ acceptsChange n (now (alphabet .entry)) self ⌝ }
     {
         let done = self.done();
-        if !done.accepted(n) {
+        if !done.accepted(n, alphabet) {
             return false;
         }
         let back = self.back();
-        back.accepted(n)
+        back.accepted(n, alphabet)
     }
 }

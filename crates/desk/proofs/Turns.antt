@@ -9,7 +9,8 @@ use borrow.Author.Tests.{eq-eqb, ne-eqb}
 use lib.Dec.{ltb}
 use lib.ListN.{length, take, drop, length-append, length-drop}
 use lib.Seq.{take-all}
-use Rattle.terms.specs.Texts.{Text, text}
+use Rattle.terms.specs.Alphabets.{allBytes}
+use Rattle.terms.specs.Texts.{Text, text, textAll}
 use Rattle.terms.specs.declared.limits.Limits.{Limits}
 use Rattle.tilings.specs.Tilings.{Part, Given, gaps, total}
 use Rattle.boards.specs.Pieces.{board}
@@ -50,17 +51,17 @@ module _ (d : Desk) (reply : Reply) (show : Said → List ℕ) {out out′ : Lis
       ∙ sym (ap (λ (t : Bool). cond t (withSheet (reply .sheet), show (reply .said)) (d, refusalText 14)) h)) p
 
 -- an opening: accepted, or refused with the former sheet
-module _ (d : Desk) (string map : List ℕ) (c : Bool) (l : Limits) (given : Reply) (e : given ≡ openCall (text string map) l) (f : map ≡ mapOf c) where
+module _ (d : Desk) (string map z : List ℕ) (c : Bool) (l : Limits) (given : Reply) (e : given ≡ openCall (text string map z) l) (f : map ≡ mapOf c) (y : z ≡ allBytes) where
   -- the reply is that of the map named
-  named : given ≡ openCall (text string (mapOf c)) l
-  named = e ∙ ap (λ (m : List ℕ). openCall (text string m) l) f
+  named : given ≡ openCall (textAll string (mapOf c)) l
+  named = e ∙ ap₂ (λ (m w : List ℕ). openCall (text string m w) l) f y
 
   module _ (k : ℕ) (q : k ≡ numberOf (given .said)) {out out′ : List ℕ} {r : Turn} where
-    pub opening-accepted : k ≡ 0 → Turned (withSheet (given .sheet), saidText (given .said)) out out′ r → Turned (opening d (openCall (text string (mapOf c)) l)) out out′ r
+    pub opening-accepted : k ≡ 0 → Turned (withSheet (given .sheet), saidText (given .said)) out out′ r → Turned (opening d (openCall (textAll string (mapOf c)) l)) out out′ r
     unfolding opening
     opening-accepted h p = rw (← named, eq-eqb (numberOf (given .said)) 0 (sym q ∙ h)) p
 
-    pub opening-refused : (k ≡ 0 → ⊥) → r .desk ≡ d → Put out 0 (saidText (given .said)) (r .written) out′ → Turned (opening d (openCall (text string (mapOf c)) l)) out out′ r
+    pub opening-refused : (k ≡ 0 → ⊥) → r .desk ≡ d → Put out 0 (saidText (given .said)) (r .written) out′ → Turned (opening d (openCall (textAll string (mapOf c)) l)) out out′ r
     unfolding opening
     opening-refused h p t = rw (← named, ne-eqb (numberOf (given .said)) 0 (λ z. h (q ∙ z))) (p, t)
 
@@ -129,11 +130,11 @@ module _ (d : Desk) (xs : List ℕ) (asked : Line) (q : Reads xs asked) where
         record { line = line; reads = subst (Reads xs) e q; text = o .1; does = subst (Does d xs line table table room room) (ap (λ (z : Desk). (z, o .1)) (sym (p .0))) h; puts = p .1 }
 
     -- an opening's string is the line's rest
-    pub opening-replied : (l : Limits) (c : Bool) (from : ℕ) → asked ≡ Open l c from → Turned (opening d (openCall (text (take (length xs - from) (drop from xs)) (mapOf c)) l)) out out′ r
+    pub opening-replied : (l : Limits) (c : Bool) (from : ℕ) → asked ≡ Open l c from → Turned (opening d (openCall (textAll (take (length xs - from) (drop from xs)) (mapOf c)) l)) out out′ r
         → DeskReply d xs table table room room out out′ r
     opening-replied l c from e p =
         let all : take (length xs - from) (drop from xs) ≡ drop from xs = take-all (length xs - from) (drop from xs) (omega (arith, length-drop from xs)) in
-        replied (Open l c from) e (opening d (openCall (text (drop from xs) (mapOf c)) l)) (refl, (refl, refl)) (rw all at p)
+        replied (Open l c from) e (opening d (openCall (textAll (drop from xs) (mapOf c)) l)) (refl, (refl, refl)) (rw all at p)
 
   pub question-replied : {table table′ room room′ out out′ : List ℕ} {r : Turn} → asked ≡ Question → AskedOf d table table′ room room′ out out′ r
       → DeskReply d xs table table′ room room′ out out′ r

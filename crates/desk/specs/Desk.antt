@@ -7,7 +7,7 @@ use Prim.Native.Nat.{ℕ, _<_}
 use lib.Dec.{eqb}
 use lib.ListN.{drop}
 use Rattle.terms.specs.Maps.{plainMap, complementMap}
-use Rattle.terms.specs.Texts.{text}
+use Rattle.terms.specs.Texts.{textAll}
 use Rattle.tilings.specs.Tilings.{Part, Given}
 use Rattle.boards.specs.Pieces.{board}
 use Rattle.questions.specs.Tiling.{figures}
@@ -59,7 +59,7 @@ Stay table table′ room room′ = (table′ ≡ table) × (room′ ≡ room)
 
 -- What a line brings about: the desk afterwards and the text of its reply, with table and room as lent and as left.
 abbrev pub Does : Desk → List ℕ → Line → List ℕ → List ℕ → List ℕ → List ℕ → Desk × List ℕ → Type 0
-Does d xs (Open l c from) t t′ m m′ o = (o ≡ opening d (openCall (text (drop from xs) (mapOf c)) l)) × Stay t t′ m m′
+Does d xs (Open l c from) t t′ m m′ o = (o ≡ opening d (openCall (textAll (drop from xs) (mapOf c)) l)) × Stay t t′ m m′
 Does d xs (Letter p b) t t′ m m′ o = (o ≡ calling d (letterCall (d .sheet) p b) saidText) × Stay t t′ m m′
 Does d xs (NewLimits l) t t′ m m′ o = (o ≡ calling d (limitsCall (d .sheet) l) saidText) × Stay t t′ m m′
 Does d xs TakeBack t t′ m m′ o = (o ≡ calling d (takeBackCall (d .sheet)) (restoredText 66)) × Stay t t′ m m′

@@ -8,11 +8,12 @@ use replies::put_restored;
 use replies::put_said;
 use sheet::Reply;
 use sheet::Sheet;
+use terms::alphabets;
 use terms::limits::Limits;
 use terms::maps;
 ghost use mathlib.Core.Path.{_≡_};
 ghost use mathlib.Core.Bool.{true};
-ghost use Rattle.terms.specs.Texts.{text};
+ghost use Rattle.terms.specs.Texts.{textAll};
 ghost use Rattle.sheet.specs.Calls.{openCall, letterCall, limitsCall, takeBackCall, putAgainCall};
 ghost use Rattle.replies.specs.Replies.{saidText, restoredText, refusalText};
 ghost use Rattle.desk.specs.Desk.{newDesk, withSheet, mapOf, opening, calling, DeskReply};
@@ -97,10 +98,11 @@ impl Desk {
 
     // An opening; a refused one leaves the former sheet.
     fn open(self, limits: Limits, complement: bool, string: &[u8], out: &mut [u8]) -> Turn
-        ensures { λ r. ⌜ Turned (opening self (openCall (text (now (string .entry)) (mapOf complement)) limits)) (now (out .entry)) (now (out .exit)) r ⌝ }
+        ensures { λ r. ⌜ Turned (opening self (openCall (textAll (now (string .entry)) (mapOf complement)) limits)) (now (out .entry)) (now (out .exit)) r ⌝ }
     {
         let map = map_of(complement);
-        let reply = Sheet::open(string, &map, limits);
+        let all = alphabets::all();
+        let reply = Sheet::open(string, &map, limits, &all);
         let what = reply.said;
         let number = number_of(what);
         if number == 0 {

@@ -1,17 +1,12 @@
--- What the number said tells of a call's faults, and the faults of an opening. Assumes nothing.
+-- What the number said tells of a call's faults. Assumes nothing.
 use mathlib.Core.Path.{_≡_, refl, sym, _∙_}
 use mathlib.Core.Bool.{Bool, true, false, cond}
 use mathlib.Core.List.{List, _∷_}
-use Prim.Native.Nat.{ℕ, suc, _≤_}
+use Prim.Native.Nat.{ℕ, suc}
 use native.Mathlib.Omega.{arith}
-use borrow.Author.Tests.{eqb-true, eqb-false, ltb-false}
+use borrow.Author.Tests.{eqb-true, eqb-false}
 use lib.Dec.{eqb}
 use Rattle.terms.specs.Refusals.{firstFault}
-use Rattle.terms.specs.Maps.{mapFaults}
-use Rattle.terms.specs.Limits.{limitsFaults}
-use Rattle.terms.specs.Texts.{Text, size, textFaults, openingFaults}
-use Rattle.terms.specs.declared.limits.Limits.{Limits}
-use Rattle.terms.proofs.Refusals.{fault-none, text-numbered}
 use Rattle.changes.specs.declared.Edit.{Edit}
 use Rattle.sheet.specs.Calls.{numberOf, refusing, answered}
 use Rattle.sheet.specs.declared.Reply.{Reply}
@@ -42,12 +37,3 @@ decide-accepts fs h e = go (eqb (firstFault fs) 0) refl
         → cond b (accept h e) (refuse h (firstFault fs)) ≡ accept h e
     go true q z = refl
     go false q z = absurd (eqb-false _ _ q z)
-
--- an opening is accepted only where its string is no longer than 1,000, its map passes and its limits pass
-module _ (x : Text) (l : Limits) where
-  pub opening-passed : firstFault (openingFaults x l) ≡ 0 → (size x ≤ 1000) × (firstFault (mapFaults (x .map)) ≡ 0) × (firstFault (limitsFaults l) ≡ 0)
-  unfolding openingFaults textFaults
-  opening-passed e =
-      let both = fault-none (textFaults x) (limitsFaults l) (text-numbered x) e in
-      let t = clear 0 _ (mapFaults (x .map)) (both .0) in
-      (ltb-false _ _ (t .0), t .1, both .1)

@@ -5,11 +5,16 @@ use mathlib.Core.List.{List, [], _∷_}
 use Prim.Native.Nat.{ℕ, suc, _+_, _≤_, _<_}
 use native.Mathlib.Numerals.{add-one}
 use native.Mathlib.Omega.{arith}
-use lib.ListN.{length, length-set}
+use lib.ListN.{length, getD, take, length-set}
+use lib.Seq.{getD-take}
+use Rattle.terms.specs.Alphabets.{isIn}
+use Rattle.terms.specs.Texts.{size}
+use Rattle.terms.proofs.Passed.{sound-opening}
+use Rattle.sheet.proofs.Within.{bounds}
 use Rattle.changes.specs.Changes.{doneOf, backOf, accepts}
 use Rattle.changes.specs.declared.Change.{Change}
 use Rattle.changes.specs.declared.Edit.{Edit}
-use Rattle.sheet.specs.Bounds.{keptAt, inBounds}
+use Rattle.sheet.specs.Bounds.{textOf, keptAt, inBounds}
 use Rattle.sheet.specs.Calls.{applied, replacing, changed}
 use Rattle.sheet.specs.declared.Kept.{Kept}
 use Rattle.sheet.specs.declared.Reply.{Reply}
@@ -18,7 +23,7 @@ use Rattle.sheet.specs.declared.Sheet.{Sheet}
 use Rattle.history.specs.History.{Content, History, make, back, made, sayBack, current, moved, accept}
 use Rattle.history.specs.Runs.{standingFrom, takenFrom, standingOf, takenOf}
 use Rattle.history.proofs.Lists.{standing-length, standing-below, standing-new, all-new}
-use Rattle.history.proofs.Padding.{Holds, holds-same}
+use Rattle.history.proofs.Padding.{Holds, letters-are, holds-same}
 use Rattle.history.proofs.Edits.{applied-holds, applied-says, replacing-back, replacing-done}
 use Rattle.history.proofs.Bounded.{applied-bounds, changed-bounds}
 
@@ -46,8 +51,16 @@ abbrev pub Agrees : Content → Reply → History × Said → Type 0
 Agrees o r x = Invariant o (r .sheet) × (x ≡ (historyOf o (r .sheet), r .said))
 
 module _ {o : Content} {s : Sheet} (S : Invariant o s) where
+  -- every letter is of the alphabet
+  spelt-at : (p : ℕ) → p < s .n → isIn (s .alphabet) (getD (s .letters) p 0) ≡ true
+  spelt-at p h =
+      let q : length (take (s .n) (s .letters)) ≡ size (made o (standingOf s) .text) = ap length (letters-are (S .holds)) in
+      let n : s .n ≡ size (made o (standingOf s) .text) = S .holds .n in
+      let e : getD (take (s .n) (s .letters)) p 0 ≡ getD (s .letters) p 0 = getD-take (s .n) (s .letters) p 0 h in
+      ap (isIn (s .alphabet)) (sym e) ∙ sound-opening (textOf s) (s .limits) (bounds s (S .bounds) .opens) .0 .spelt p (omega arith)
+
   -- the edit e moves the counts to st and tk, over the same kept changes
-  module _ (e : Edit) (a : accepts (s .n) e ≡ true) (st tk : ℕ) where
+  module _ (e : Edit) (a : accepts (s .n) (s .alphabet) e ≡ true) (st tk : ℕ) where
     abbrev reached : History
     reached = record { opening = o; standing = standingFrom (s .kept) st; taken = takenFrom (s .kept) st tk }
 
@@ -68,7 +81,7 @@ module _ {o : Content} {s : Sheet} (S : Invariant o s) where
         )
 
   -- the edit e is made and kept as the newest change
-  pub changed-agrees : (e : Edit) → accepts (s .n) e ≡ true → s .standing < 64 → Agrees o (changed s e) (accept (historyOf o s) e)
+  pub changed-agrees : (e : Edit) → accepts (s .n) (s .alphabet) e ≡ true → s .standing < 64 → Agrees o (changed s e) (accept (historyOf o s) e)
   unfolding changed applied
   changed-agrees e a few =
       let room : length (s .kept) ≡ 64 = S .room in
@@ -81,11 +94,11 @@ module _ {o : Content} {s : Sheet} (S : Invariant o s) where
       let k : suc (length (standingOf s)) ≡ s .standing + 1 = rw (standing-length, add-one) in
       let is : e ∷ standingOf s ≡ standingOf (changed s e .sheet) = rw (add-one, standing-new (s .kept) (s .standing) x l, d) in (
         record {
-          bounds = changed-bounds s (S .bounds) e a room few;
+          bounds = changed-bounds s (S .bounds) e a spelt-at room few;
           room = length-set (s .kept) (s .standing) x ∙ room;
           holds =
               subst (λ (es : List Edit). Holds (changed s e .sheet) (made o es)) is
-              (record { letters = H .letters; n = H .n; map = H .map; limits = H .limits });
+              (record { letters = H .letters; n = H .n; map = H .map; alphabet = H .alphabet; limits = H .limits });
           restores =
               λ i h.
               let b : i ≤ s .standing = omega arith in

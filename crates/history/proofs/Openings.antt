@@ -7,12 +7,14 @@ use Prim.Native.Nat.{ℕ}
 use native.Mathlib.Omega.{arith}
 use lib.ListN.{length-replicate}
 use Rattle.terms.specs.Refusals.{firstFault}
-use Rattle.terms.specs.Maps.{plainMap}
+use Rattle.terms.specs.Maps.{everyBelow, plainMap}
+use Rattle.terms.specs.Alphabets.{allBytes, closedUnder, spelt, alphabetFaults}
 use Rattle.terms.specs.Limits.{limitsFaults, wrongKind, outOfRange, tooManyErrors}
-use Rattle.terms.specs.Texts.{Text, text, size, openingFaults}
+use Rattle.terms.specs.Texts.{Text, textAll, size, openingFaults}
 use Rattle.terms.specs.declared.limits.Limits.{Limits}
 use Rattle.terms.proofs.Below.{below-zero}
 use Rattle.terms.proofs.Supplied.{plain-passes}
+use Rattle.terms.proofs.Passed.{sound-opening}
 use Rattle.questions.specs.Tiling.{TilingReply}
 use Rattle.questions.specs.declared.Answer.{Answer}
 use Rattle.questions.proofs.Readers.{one-reply}
@@ -27,9 +29,9 @@ use Rattle.sheet.proofs.Replying.{answer-yes}
 use Rattle.sheet.proofs.Asked.{opening-passes, content-opens}
 use Rattle.history.specs.History.{Content, made}
 use Rattle.history.specs.Runs.{contentOf, standingOf, FreshReply}
-use Rattle.history.proofs.Padding.{content-is}
+use Rattle.history.proofs.Padding.{padded-take, content-is}
 use Rattle.history.proofs.Invariant.{Invariant}
-use Rattle.history.proofs.Faults.{number-is, opening-passed}
+use Rattle.history.proofs.Faults.{number-is}
 
 module _ (x : Text) (l : Limits) where
   abbrev opening : Content
@@ -46,13 +48,12 @@ module _ (x : Text) (l : Limits) where
   pub opened-invariant : firstFault (openingFaults x l) ≡ 0 → Invariant opening (opened x l)
   unfolding opened
   opened-invariant e =
-      let p = opening-passed x l e in
       record {
         bounds =
-            within (opened x l) (p .0) (p .1) (p .2) (omega arith)
-            ∙ below-zero (λ i. acceptsChange (size x) (keptAt (opened x l .kept) i));
+            within (opened x l) (sound-opening x l e .0 .short) (rw (padded-take (x .letters)) e) (omega arith)
+            ∙ below-zero (λ i. acceptsChange (size x) (x .alphabet) (keptAt (opened x l .kept) i));
         room = length-replicate 64 noChange;
-        holds = record { letters = refl; n = refl; map = refl; limits = refl };
+        holds = record { letters = refl; n = refl; map = refl; alphabet = refl; limits = refl };
         restores = λ i h. absurd (omega arith);
       }
 
@@ -83,7 +84,12 @@ fresh-reply {o} {s} S t t′ room room′ r a =
           one-reply (c .text) (c .limits) t room t″ t′ room″ room′ r″ r fresh right;
     }
 
+-- all 256 bytes are closed under the plain map
+all-closed : firstFault (alphabetFaults [] plainMap allBytes) ≡ 0
+unfolding firstFault alphabetFaults closedUnder spelt everyBelow plainMap allBytes
+all-closed = refl
+
 -- the blank sheet's opening has no fault
-pub blank-passes : firstFault (openingFaults (text [] plainMap) (record { kind = 1; m = 1; g = 0; d = 0 })) ≡ 0
+pub blank-passes : firstFault (openingFaults (textAll [] plainMap) (record { kind = 1; m = 1; g = 0; d = 0 })) ≡ 0
 unfolding firstFault limitsFaults wrongKind outOfRange tooManyErrors
-blank-passes = opening-passes _ _ (omega arith) plain-passes refl
+blank-passes = opening-passes _ _ (omega arith) plain-passes all-closed refl

@@ -12,7 +12,7 @@ use Rattle.history.specs.History.{Content}
 use Rattle.history.specs.Runs.{contentOf}
 
 module _ (x : List ℕ) where
-  padded-take : take (length x) (padded x) ≡ x
+  pub padded-take : take (length x) (padded x) ≡ x
   unfolding padded
   padded-take = take-append-seam x (replicate (1000 - length x) 0)
 
@@ -31,15 +31,20 @@ pub record Holds (s : Sheet) (c : Content) : Type 0 where
   pub letters : s .letters ≡ padded (c .text .letters)
   pub n : s .n ≡ size (c .text)
   pub map : s .map ≡ c .text .map
+  pub alphabet : s .alphabet ≡ c .text .alphabet
   pub limits : s .limits ≡ c .limits
 
 module _ {s : Sheet} {c : Content} (H : Holds s c) where
+  pub letters-are : take (s .n) (s .letters) ≡ c .text .letters
+  letters-are = ap₂ take (H .n) (H .letters) ∙ padded-take (c .text .letters)
+
   pub content-is : contentOf s ≡ c
   content-is =
-      let x : take (s .n) (s .letters) ≡ c .text .letters = ap₂ take (H .n) (H .letters) ∙ padded-take (c .text .letters) in
+      let x : take (s .n) (s .letters) ≡ c .text .letters = letters-are in
       let f : s .map ≡ c .text .map = H .map in
+      let z : s .alphabet ≡ c .text .alphabet = H .alphabet in
       let l : s .limits ≡ c .limits = H .limits in
-      rw (x, f, l)
+      rw (x, f, z, l)
 
   pub letter-at : (p : ℕ) → p < s .n → getD (s .letters) p 0 ≡ getD (c .text .letters) p 0
   letter-at p h =
@@ -52,5 +57,6 @@ module _ {s : Sheet} {c : Content} (H : Holds s c) where
       let x : s .letters ≡ t .letters = H .letters ∙ sym (K .letters) in
       let n : s .n ≡ t .n = H .n ∙ sym (K .n) in
       let f : s .map ≡ t .map = H .map ∙ sym (K .map) in
+      let z : s .alphabet ≡ t .alphabet = H .alphabet ∙ sym (K .alphabet) in
       let l : s .limits ≡ t .limits = H .limits ∙ sym (K .limits) in
-      λ i. record { letters = x i; n = n i; map = f i; limits = l i; kept = ks i; standing = st i; taken = tk i }
+      λ i. record { letters = x i; n = n i; map = f i; alphabet = z i; limits = l i; kept = ks i; standing = st i; taken = tk i }

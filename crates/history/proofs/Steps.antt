@@ -1,6 +1,6 @@
 -- One request on a sheet and on its history: the same answer, and the history stays the one read off the sheet. Assumes nothing.
 use mathlib.Core.Path.{_≡_, refl, ap, subst, _∙_}
-use mathlib.Core.Bool.{Bool, true, false, cond}
+use mathlib.Core.Bool.{Bool, true, false, not, cond}
 use mathlib.Core.List.{List, [], _∷_, _++_}
 use Prim.Native.Nat.{ℕ, zero, suc, _-_, _<_}
 use native.Mathlib.Numerals.{add-one}
@@ -9,10 +9,12 @@ use borrow.Author.Tests.{eqb-true, leb-false}
 use lib.Dec.{eqb, leb}
 use lib.ListN.{length}
 use Rattle.terms.specs.Refusals.{firstFault}
+use Rattle.terms.specs.Alphabets.{isIn}
 use Rattle.terms.specs.Limits.{limitsFaults}
 use Rattle.terms.specs.Texts.{size}
 use Rattle.terms.specs.declared.limits.Limits.{Limits}
 use Rattle.terms.proofs.Refusals.{fault-none, limits-numbered}
+use Rattle.terms.proofs.Passed.{not-off}
 use Rattle.changes.specs.Changes.{doneOf, backOf, accepts}
 use Rattle.changes.specs.declared.Change.{Change}
 use Rattle.changes.specs.declared.Edit.{Edit}
@@ -34,7 +36,7 @@ use Rattle.history.proofs.Faults.{clear}
 -- a sheet with other counts
 abbrev pub counting : Sheet → ℕ → ℕ → Sheet
 counting s st tk =
-    record { letters = s .letters; n = s .n; map = s .map; limits = s .limits; kept = s .kept; standing = st; taken = tk }
+    record { letters = s .letters; n = s .n; map = s .map; alphabet = s .alphabet; limits = s .limits; kept = s .kept; standing = st; taken = tk }
 
 -- take-back, by the number standing; put-again, by the number taken back
 pub back-refused : (z : Sheet) → inBounds z ≡ true → z .standing ≡ 0 → takeBackCall z ≡ refusing z 8
@@ -85,12 +87,12 @@ module _ (o : Content) where
 module _ {o : Content} {s : Sheet} (S : Invariant o s) where
   -- a change, where the sheet's faults and the history's come to one number, and are none only for an edit to be made
   module _ (e : Edit) where
-    by-test : (k : ℕ) (b : Bool) → (b ≡ true → (accepts (s .n) e ≡ true) × (s .standing < 64))
+    by-test : (k : ℕ) (b : Bool) → (b ≡ true → (accepts (s .n) (s .alphabet) e ≡ true) × (s .standing < 64))
         → Agrees o (cond b (changed s e) (refusing s k)) (cond b (accept (historyOf o s) e) (refuse (historyOf o s) k))
     by-test k true a = changed-agrees S e (a refl .0) (a refl .1)
     by-test k false a = (S, refl)
 
-    decided : (fs gs : List (ℕ × Bool)) → firstFault fs ≡ firstFault gs → (firstFault gs ≡ 0 → (accepts (s .n) e ≡ true) × (s .standing < 64))
+    decided : (fs gs : List (ℕ × Bool)) → firstFault fs ≡ firstFault gs → (firstFault gs ≡ 0 → (accepts (s .n) (s .alphabet) e ≡ true) × (s .standing < 64))
         → Agrees o (answered fs s (changed s e)) (decide gs (historyOf o s) e)
     unfolding answered
     decided fs gs q a = rw q (by-test (firstFault gs) (eqb (firstFault gs) 0) (λ t. a (eqb-true _ _ t)))
@@ -107,9 +109,9 @@ module _ {o : Content} {s : Sheet} (S : Invariant o s) where
       let l : length (standingOf s) < 64 = leb-false _ _ (clear 6 _ [] e .0) in
       omega arith
 
-  letter-faults : (p : ℕ) → firstFault (letterFaults s p) ≡ firstFault ((6, leb (size (content .text)) p) ∷ (7, full (historyOf o s)) ∷ [])
+  letter-faults : (p b : ℕ) → firstFault (letterFaults s p b) ≡ firstFault ((6, leb (size (content .text)) p) ∷ (19, not (isIn (content .text .alphabet) b)) ∷ (7, full (historyOf o s)) ∷ [])
   unfolding letterFaults firstFault
-  letter-faults p = rw (S .bounds, S .holds .n, standing-is)
+  letter-faults p b = rw (S .bounds, S .holds .n, S .holds .alphabet, standing-is)
 
   limits-faults : (l : Limits) → firstFault (limitsCallFaults s l) ≡ firstFault (limitsFaults l ++ (7, full (historyOf o s)) ∷ [])
   unfolding limitsCallFaults firstFault
@@ -117,14 +119,15 @@ module _ {o : Content} {s : Sheet} (S : Invariant o s) where
 
   pub step : (q : Request) → Agrees o (perform s q) (reckon (historyOf o s) q)
   step (letter p b) =
-      decided (EditLetter p b) _ _ (letter-faults p)
+      decided (EditLetter p b) _ _ (letter-faults p b)
       (λ e.
-      let t = clear 5 _ ((7, full (historyOf o s)) ∷ []) e in
+      let t = clear 5 _ ((19, not (isIn (content .text .alphabet) b)) ∷ (7, full (historyOf o s)) ∷ []) e in
+      let u = clear 18 _ ((7, full (historyOf o s)) ∷ []) (t .1) in
       let n : s .n ≡ size (content .text) = S .holds .n in
       let h : p < size (content .text) = leb-false _ _ (t .0) in
-      (inside-place (s .n) p b (omega arith), few (t .1)))
+      (inside-place (s .n) (s .alphabet) p b (omega arith) (ap (λ (z : List ℕ). isIn z b) (S .holds .alphabet) ∙ not-off _ (u .0)), few (u .1)))
   step (limits l) =
       decided (EditLimits l) _ _ (limits-faults l)
-      (λ e. let t = fault-none (limitsFaults l) _ (limits-numbered l) e in (limits-accepted (s .n) l (t .0), few (t .1)))
+      (λ e. let t = fault-none (limitsFaults l) _ (limits-numbered l) e in (limits-accepted (s .n) (s .alphabet) l (t .0), few (t .1)))
   step takeBack = back-step o s (s .standing) (s .taken) S
   step putAgain = again-step o s (s .standing) (s .taken) S

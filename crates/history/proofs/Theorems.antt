@@ -23,10 +23,11 @@ use Rattle.sheet.proofs.Within.{bounds}
 use Rattle.sheet.proofs.Replying.{answer-no, applied-accepted, changed-accepted}
 use Rattle.history.specs.History.{Content, History, Request, letter, limits, takeBack, putAgain, made, start, accept, decide, reckon}
 use Rattle.history.specs.Runs.{contentOf, standingOf, takenOf, perform, Exchange, requested, asked, Run, after, Faithful}
-use Rattle.history.specs.Demand3.{Came, Demand3, RefusedStays, BackAndAgain, ChangeAndBack}
+use Rattle.history.specs.Demand3.{Came, Demand3, AlphabetStays, RefusedStays, BackAndAgain, ChangeAndBack}
 use Rattle.history.specs.Openings.{BlankToo, OpensAnew}
 use Rattle.history.proofs.Lists.{standing-length}
 use Rattle.history.proofs.Padding.{content-is}
+use Rattle.history.proofs.Edits.{make-keeps}
 use Rattle.history.proofs.Invariant.{historyOf, Invariant, invariant-same}
 use Rattle.history.proofs.Faults.{number-is, decide-accepts}
 use Rattle.history.proofs.Steps.{counting, back-refused, back-made, again-made, step}
@@ -64,6 +65,17 @@ demand-3 x l xs s c =
       E .faithful,
       rw (E .history) (record { content = content-is (S .holds); standing = refl; taken = refl; few = omega arith; bounds = S .bounds }),
     )
+
+-- no change touches map or alphabet
+made-keeps : (o : Content) (es : List Edit) → (made o es .text .map ≡ o .text .map) × (made o es .text .alphabet ≡ o .text .alphabet)
+made-keeps o [] = (refl, refl)
+made-keeps o (e ∷ es) = let k = make-keeps e (made o es) in let h = made-keeps o es in (k .0 ∙ h .0, k .1 ∙ h .1)
+
+pub alphabet-stays : AlphabetStays
+alphabet-stays x l xs s c =
+    let H = came-ends x l xs s c .invariant .holds in
+    let k = made-keeps (record { text = x; limits = l }) (standingOf s) in
+    (H .map ∙ k .0, H .alphabet ∙ k .1)
 
 -- A refused call leaves the sheet handed in.
 stays : (fs : List (ℕ × Bool)) (s : Sheet) (r : Reply) → numberOf (r .said) ≡ 0 → (numberOf (answered fs s r .said) ≡ 0 → ⊥) → answered fs s r .sheet ≡ s

@@ -16,7 +16,7 @@ use Rattle.history.specs.Runs.{contentOf, standingOf, takenOf, perform, 
 
 -- A sheet that a run of calls left, beside the history reckoned from those calls.
 pub record Stands (h : History) (s : Sheet) : Type 0 where
-  -- the letters, map and limits are the opening's with just the standing changes made in their order
+  -- the letters, map, alphabet and limits are the opening's with just the standing changes made in their order
   pub content : contentOf s ≡ current h
   -- the sheet's two lists are the history's
   pub standing : standingOf s ≡ h .standing
@@ -35,6 +35,12 @@ abbrev pub Demand3 : Type 0
 Demand3 =
     (x : Text) (l : Limits) (calls : List Exchange) (s : Sheet)
     → Came x l calls s → Faithful (start x l) calls × Stands (after (start x l) calls) s
+
+-- Map and alphabet are the opening's after any run of calls (02, L2).
+abbrev pub AlphabetStays : Type 0
+AlphabetStays =
+    (x : Text) (l : Limits) (calls : List Exchange) (s : Sheet)
+    → Came x l calls s → (s .map ≡ x .map) × (s .alphabet ≡ x .alphabet)
 
 -- A refused call leaves the sheet as it stood: any sheet handed in.
 abbrev pub RefusedStays : Type 0

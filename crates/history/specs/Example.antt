@@ -2,7 +2,7 @@
 use mathlib.Core.Path.{_≡_}
 use mathlib.Core.List.{List, [], _∷_}
 use Rattle.terms.specs.Maps.{plainMap}
-use Rattle.terms.specs.Texts.{Text, text}
+use Rattle.terms.specs.Texts.{Text, textAll}
 use Rattle.terms.specs.declared.limits.Limits.{Limits}
 use Rattle.sheet.specs.Calls.{openCall}
 use Rattle.sheet.specs.declared.Said.{Said}
@@ -12,7 +12,7 @@ use Rattle.history.specs.History.{letter, takeBack, putAgain}
 use Rattle.history.specs.Runs.{Exchange, requested, Run}
 
 abbrev pub exampleText : Text
-exampleText = text (84 ∷ 65 ∷ 67 ∷ 67 ∷ 65 ∷ 84 ∷ 71 ∷ []) plainMap
+exampleText = textAll (84 ∷ 65 ∷ 67 ∷ 67 ∷ 65 ∷ 84 ∷ 71 ∷ []) plainMap
 
 abbrev pub exampleLimits : Limits
 exampleLimits = record { kind = 1; m = 2; g = 2; d = 0 }

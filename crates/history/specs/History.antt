@@ -1,11 +1,12 @@
 -- The history of a sheet (01, "The sheet"): reckoned from the calls made since the opening, by the rules there, and not read off the sheet.
-use mathlib.Core.Bool.{Bool, cond}
+use mathlib.Core.Bool.{Bool, not, cond}
 use mathlib.Core.List.{List, [], _∷_, _++_}
 use Prim.Native.Nat.{ℕ}
 use lib.Dec.{eqb, leb}
 use lib.ListN.{getD, set, length}
 use Rattle.terms.specs.Sizes.{mostChanges}
 use Rattle.terms.specs.Refusals.{firstFault}
+use Rattle.terms.specs.Alphabets.{isIn}
 use Rattle.terms.specs.Limits.{limitsFaults}
 use Rattle.terms.specs.Texts.{Text, text, size}
 use Rattle.terms.specs.declared.limits.Limits.{Limits}
@@ -14,14 +15,14 @@ use Rattle.changes.specs.declared.Edit.the-variants.{Letter as EditLetter, Limi
 use Rattle.sheet.specs.declared.Said.{Said}
 use Rattle.sheet.specs.declared.Said.the-variants.{Letter as SaidLetter, Limits as SaidLimits, No}
 
--- What a question is asked of: letters with their map, and limits.
+-- What a question is asked of: letters with their map and alphabet, and limits.
 pub record Content : Type 0 where
   pub text : Text
   pub limits : Limits
 
 -- An edit made.
 abbrev pub make : Edit → Content → Content
-make (EditLetter p b) c = record { text = text (set (c .text .letters) p b) (c .text .map); limits = c .limits }
+make (EditLetter p b) c = record { text = text (set (c .text .letters) p b) (c .text .map) (c .text .alphabet); limits = c .limits }
 make (EditLimits l) c = record { text = c .text; limits = l }
 
 -- The edit that takes e back, where e was made of c: it restores what was there.
@@ -91,7 +92,7 @@ againFrom h (e ∷ es) = moved h e (record { opening = h .opening; standing = e 
 
 -- What a request makes of the history, and what is said back.
 abbrev pub reckon : History → Request → History × Said
-reckon h (letter p b) = decide ((6, leb (size (current h .text)) p) ∷ (7, full h) ∷ []) h (EditLetter p b)
+reckon h (letter p b) = decide ((6, leb (size (current h .text)) p) ∷ (19, not (isIn (current h .text .alphabet) b)) ∷ (7, full h) ∷ []) h (EditLetter p b)
 reckon h (limits l) = decide (limitsFaults l ++ (7, full h) ∷ []) h (EditLimits l)
 reckon h takeBack = backFrom h (h .standing)
 reckon h putAgain = againFrom h (h .taken)

@@ -15,7 +15,7 @@ use Rattle.sheet.specs.declared.Sheet.{Sheet}
 use Rattle.sheet.specs.declared.Reply.{Reply}
 use Rattle.history.specs.History.{Content, History, Request, letter, limits, takeBack, putAgain, current, reckon}
 
--- A sheet's letters, map and limits.
+-- A sheet's letters, map, alphabet and limits.
 abbrev pub contentOf : Sheet → Content
 contentOf s = record { text = textOf s; limits = s .limits }
 

@@ -12,12 +12,16 @@ use Rattle.lines.specs.declared.Number.the-variants.{Is}
 use Rattle.lines.proofs.Standing.{stands-in}
 use Rattle.lines.proofs.Numbers.{After, after-sound}
 use Rattle.terms.specs.declared.limits.Limits.{Limits}
-use Rattle.inspect.specs.Asking.{Behind, Fits}
+use Rattle.inspect.specs.Asking.{Behind, Beyond, Fits}
 use Rattle.inspect.specs.declared.maps.Map.{Map}
 use Rattle.inspect.specs.declared.asks.Ask.{Ask}
 use Rattle.inspect.specs.declared.asks.Ask.the-variants.{Tiling, Centres, Longest, Longer}
-use Rattle.inspect.specs.declared.asks.Named.{Named}
-use Rattle.inspect.specs.declared.asks.Named.the-variants.{Is as NamedIs, Not as NotNamed}
+use Rattle.inspect.specs.declared.named.Named.{Named}
+use Rattle.inspect.specs.declared.named.Named.the-variants.{Is as NamedIs, Not as NotNamed}
+use Rattle.inspect.specs.declared.named.Spelt.{Spelt}
+use Rattle.inspect.specs.declared.named.Spelt.the-variants.{Is as SpeltIs, Not as NotSpelt}
+use Rattle.inspect.specs.declared.alphabets.Alphabet.{Alphabet}
+use Rattle.inspect.specs.declared.named.Letters.{Letters}
 
 -- a byte that stands at a place stands in the line
 pub place-in : (xs : List ℕ) (i b : ℕ) (r : Bool) → r ≡ stands xs i b → not r ≡ false → i < length xs
@@ -32,12 +36,19 @@ pub behind-more : (a b : ℕ) (r : Named) → a ≤ b → Behind a r → Behind 
 behind-more a b (NamedIs map next) h p = omega arith
 behind-more a b NotNamed h p = tt
 
+pub beyond-more : (a b : ℕ) (r : Spelt) → a ≤ b → Beyond a r → Beyond b r
+beyond-more a b (SpeltIs alphabet next) h p = omega arith
+beyond-more a b NotSpelt h p = tt
+
+pub beyond-at : (most : ℕ) (r : Spelt) (z : Alphabet) (n : ℕ) → Beyond most r → r ≡ SpeltIs z n → n ≤ most
+beyond-at most r z n p e = subst (Beyond most) e p
+
 -- what fits a line that is read, by what it asks
 module _ (xs : List ℕ) (r : Ask) (p : Fits xs r) where
-  pub tiling-fits : (s : Bool) (l : Limits) (m : Map) (t o f : ℕ) → r ≡ Tiling s l m t o f → (t ≤ 9999) × (o ≤ 9999) × (f ≤ length xs)
+  pub tiling-fits : (s : Bool) (l : Limits) (m : Letters) (t o f : ℕ) → r ≡ Tiling s l m t o f → (t ≤ 9999) × (o ≤ 9999) × (f ≤ length xs)
   tiling-fits s l m t o f e = subst (Fits xs) e p
 
-  pub centres-fits : (d : ℕ) (m : Map) (t f : ℕ) → r ≡ Centres d m t f → (t ≤ 9999) × (f ≤ length xs)
+  pub centres-fits : (d : ℕ) (m : Letters) (t f : ℕ) → r ≡ Centres d m t f → (t ≤ 9999) × (f ≤ length xs)
   centres-fits d m t f e = subst (Fits xs) e p
 
   pub longest-fits : (m : Map) (f : ℕ) → r ≡ Longest m f → f ≤ length xs

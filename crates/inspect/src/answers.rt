@@ -1,10 +1,13 @@
 // One line answered: the call that it asks for is made, and what it says and leaves is printed.
+use crate::alphabets::count_of;
+use crate::alphabets::flags_of;
 use crate::asks::Ask;
 use crate::asks::read;
 use crate::files::answer_file;
 use crate::maps::Map;
 use crate::maps::bytes_of;
 use crate::maps::size_of;
+use crate::named::Letters;
 use crate::shows::put_centres;
 use crate::shows::put_part;
 use crate::shows::put_tiling;
@@ -54,10 +57,11 @@ fn tiling(
     table: &mut [u16],
     room: &mut [u8],
     out: &mut [u8],
+    alphabet: &[u8],
 ) -> usize
     ensures { λ r. ⌜ r ≤ length (now (out .entry)) ⌝ }
 {
-    let answer = tile(string, map, limits, table, room);
+    let answer = tile(string, map, limits, table, room, alphabet);
     put_tiling(out, b'T', answer, table, room)
 }
 
@@ -69,10 +73,11 @@ fn sheet_tiling(
     table: &mut [u16],
     room: &mut [u8],
     out: &mut [u8],
+    alphabet: &[u8],
 ) -> usize
     ensures { λ r. ⌜ r ≤ length (now (out .entry)) ⌝ }
 {
-    let reply = Sheet::open(string, map, limits);
+    let reply = Sheet::open(string, map, limits, alphabet);
     let said = reply.said;
     let number = number_of(said);
     if number != 0 {
@@ -87,7 +92,7 @@ fn sheet_tiling(
 fn either_tiling(
     on_sheet: bool,
     limits: Limits,
-    map: Map,
+    letters: Letters,
     string: &[u8],
     table: &mut [u16],
     room: &mut [u8],
@@ -97,22 +102,46 @@ fn either_tiling(
 {
     reset_entries(table);
     reset_room(room);
+    let map = letters.map;
     let bytes = bytes_of(map);
     let size = size_of(map);
+    let alphabet = letters.alphabet;
+    let flags = flags_of(alphabet);
+    let count = count_of(alphabet);
     if on_sheet {
-        return sheet_tiling(limits, &bytes[0..size], string, table, room, out);
+        return sheet_tiling(
+            limits,
+            &bytes[0..size],
+            string,
+            table,
+            room,
+            out,
+            &flags[0..count],
+        );
     }
-    tiling(limits, &bytes[0..size], string, table, room, out)
+    tiling(
+        limits,
+        &bytes[0..size],
+        string,
+        table,
+        room,
+        out,
+        &flags[0..count],
+    )
 }
 
 // `C`: the maximal lengths of all centres.
-fn centres(d: usize, map: Map, string: &[u8], entries: &mut [u16], out: &mut [u8]) -> usize
+fn centres(d: usize, letters: Letters, string: &[u8], entries: &mut [u16], out: &mut [u8]) -> usize
     ensures { λ r. ⌜ r ≤ length (now (out .entry)) ⌝ }
 {
     reset_entries(entries);
+    let map = letters.map;
     let bytes = bytes_of(map);
     let size = size_of(map);
-    let found = fill_centres(string, &bytes[0..size], d, entries);
+    let alphabet = letters.alphabet;
+    let flags = flags_of(alphabet);
+    let count = count_of(alphabet);
+    let found = fill_centres(string, &bytes[0..size], d, entries, &flags[0..count]);
     put_centres(out, found, entries)
 }
 
@@ -147,14 +176,14 @@ pub fn answer(line: &[u8], table: &mut [u16], room: &mut [u8], out: &mut [u8]) -
         Ask::Tiling {
             on_sheet,
             limits,
-            map,
+            letters,
             table: entries,
             room: bytes,
             from,
         } => either_tiling(
             on_sheet,
             limits,
-            map,
+            letters,
             &line[from..n],
             &mut table[0..entries],
             &mut room[0..bytes],
@@ -162,10 +191,10 @@ pub fn answer(line: &[u8], table: &mut [u16], room: &mut [u8], out: &mut [u8]) -
         ),
         Ask::Centres {
             d,
-            map,
+            letters,
             entries,
             from,
-        } => centres(d, map, &line[from..n], &mut table[0..entries], out),
+        } => centres(d, letters, &line[from..n], &mut table[0..entries], out),
         Ask::Longest { map, from } => of_one(map, &line[from..n], out),
         Ask::Longer { map, first, from } => {
             let second = from + first;

@@ -1,5 +1,10 @@
 // One line read: what it asks of the tiling question, the fill or the longest palindromes. Unknown is any other line: `files` has those.
 use crate::maps::Map;
+use crate::named::Chosen;
+use crate::named::Letters;
+use crate::named::Named;
+use crate::named::both_after;
+use crate::named::map_after;
 use lines::BYTES;
 use lines::Four;
 use lines::Number;
@@ -7,22 +12,21 @@ use lines::fields::four_after;
 use lines::fields::number_after;
 use lines::fields::stands;
 use terms::limits::Limits;
-ghost use lib.ListN.{length};
-ghost use Rattle.inspect.specs.Asking.{Behind, Fits};
+ghost use Rattle.inspect.specs.Asking.{Fits};
 
 // What a line asks. Its string is the rest of the line from a place on.
 pub enum Ask {
     Tiling {
         on_sheet: bool,
         limits: Limits,
-        map: Map,
+        letters: Letters,
         table: usize,
         room: usize,
         from: usize,
     },
     Centres {
         d: usize,
-        map: Map,
+        letters: Letters,
         entries: usize,
         from: usize,
     },
@@ -38,59 +42,14 @@ pub enum Ask {
     Unknown,
 }
 
-// A map named in a line, with the place after its letter.
-pub enum Named {
-    Is { map: Map, next: usize },
-    Not,
-}
-
-// The map that a letter names, with the place after the letter.
-fn map_at(letter: u8, next: usize) -> Named
-    ensures { λ r. ⌜ Behind next r ⌝ }
-{
-    match letter {
-        b'I' => Named::Is {
-            map: Map::Plain,
-            next,
-        },
-        b'C' => Named::Is {
-            map: Map::Complement,
-            next,
-        },
-        b'S' => Named::Is {
-            map: Map::Short,
-            next,
-        },
-        b'X' => Named::Is {
-            map: Map::Shifted,
-            next,
-        },
-        _ => Named::Not,
-    }
-}
-
-// A space at a place, and the map's letter behind it.
-pub fn map_after(s: &[u8], i: usize) -> Named
-    ensures { λ r. ⌜ Behind (length (now (s .entry))) r ⌝ }
-{
-    if !stands(s, i, 32) {
-        return Named::Not;
-    }
-    let at = i + 1;
-    if s.len() <= at {
-        return Named::Not;
-    }
-    map_at(s[at], at + 1)
-}
-
-// `T kind m g d map table room string`, and the same with `S`
+// `T kind m g d map alphabet table room string`, and the same with `S`
 fn tiling_line(s: &[u8], on_sheet: bool) -> Ask
     ensures { λ r. ⌜ Fits (now (s .entry)) r ⌝ }
 {
     let Four::Are { limits, next: a } = four_after(s, 1) else {
         return Ask::Unknown;
     };
-    let Named::Is { map, next: b } = map_after(s, a) else {
+    let Chosen::Are { letters, next: b } = both_after(s, a) else {
         return Ask::Unknown;
     };
     let Number::Is {
@@ -113,21 +72,21 @@ fn tiling_line(s: &[u8], on_sheet: bool) -> Ask
     Ask::Tiling {
         on_sheet,
         limits,
-        map,
+        letters,
         table,
         room,
         from: e + 1,
     }
 }
 
-// `C d map entries string`
+// `C d map alphabet entries string`
 fn centres_line(s: &[u8]) -> Ask
     ensures { λ r. ⌜ Fits (now (s .entry)) r ⌝ }
 {
     let Number::Is { value: d, next: a } = number_after(s, 1) else {
         return Ask::Unknown;
     };
-    let Named::Is { map, next: b } = map_after(s, a) else {
+    let Chosen::Are { letters, next: b } = both_after(s, a) else {
         return Ask::Unknown;
     };
     let Number::Is {
@@ -142,7 +101,7 @@ fn centres_line(s: &[u8]) -> Ask
     }
     Ask::Centres {
         d,
-        map,
+        letters,
         entries,
         from: c + 1,
     }

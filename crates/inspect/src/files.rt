@@ -1,9 +1,11 @@
 // Lines about a part file that came back: a file is hexadecimal, and stands in the line itself.
-use crate::asks::Named;
-use crate::asks::map_after;
-use crate::maps::Map;
+use crate::alphabets::count_of;
+use crate::alphabets::flags_of;
 use crate::maps::bytes_of;
 use crate::maps::size_of;
+use crate::named::Chosen;
+use crate::named::Letters;
+use crate::named::both_after;
 use hex::read_hex;
 use lines::BYTES;
 use lines::Four;
@@ -51,7 +53,7 @@ enum FileAsk {
     },
     Agree {
         limits: Limits,
-        map: Map,
+        letters: Letters,
         from: usize,
     },
     Unknown,
@@ -71,12 +73,12 @@ fn step_line(s: &[u8]) -> FileAsk {
     }
 }
 
-// `Y kind m g d map file string`
+// `Y kind m g d map alphabet file string`
 fn agree_line(s: &[u8]) -> FileAsk {
     let Four::Are { limits, next: a } = four_after(s, 1) else {
         return FileAsk::Unknown;
     };
-    let Named::Is { map, next: b } = map_after(s, a) else {
+    let Chosen::Are { letters, next: b } = both_after(s, a) else {
         return FileAsk::Unknown;
     };
     if !stands(s, b, 32) {
@@ -84,7 +86,7 @@ fn agree_line(s: &[u8]) -> FileAsk {
     }
     FileAsk::Agree {
         limits,
-        map,
+        letters,
         from: b + 1,
     }
 }
@@ -118,7 +120,7 @@ fn step_from(place: usize, line: &[u8], from: usize, room: &mut [u8], out: &mut 
 // The second question. The file ends at a space, and the string is the rest of the line.
 fn agreement(
     limits: Limits,
-    map: Map,
+    letters: Letters,
     line: &[u8],
     from: usize,
     room: &mut [u8],
@@ -134,9 +136,19 @@ fn agreement(
         return put_refusal(out, 13);
     }
     let string = space + 1;
+    let map = letters.map;
     let bytes = bytes_of(map);
     let size = size_of(map);
-    let numbers = [agree(&line[string..n], &bytes[0..size], limits, &room[0..end])];
+    let alphabet = letters.alphabet;
+    let flags = flags_of(alphabet);
+    let count = count_of(alphabet);
+    let numbers = [agree(
+        &line[string..n],
+        &bytes[0..size],
+        limits,
+        &room[0..end],
+        &flags[0..count],
+    )];
     put_line(out, 0, b'Y', &numbers)
 }
 
@@ -147,7 +159,11 @@ pub fn answer_file(line: &[u8], room: &mut [u8], out: &mut [u8]) -> usize
     let asked = file_line(line);
     match asked {
         FileAsk::Step { place, from } => step_from(place, line, from, room, out),
-        FileAsk::Agree { limits, map, from } => agreement(limits, map, line, from, room, out),
+        FileAsk::Agree {
+            limits,
+            letters,
+            from,
+        } => agreement(limits, letters, line, from, room, out),
         FileAsk::Unknown => put_refusal(out, 13),
     }
 }

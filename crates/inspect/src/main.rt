@@ -1,8 +1,10 @@
 // The inspect program: lines from standard input, each answered on standard output before more input is waited for.
+mod alphabets;
 mod answers;
 mod asks;
 mod files;
 mod maps;
+mod named;
 mod shows;
 
 use crate::answers::answer;

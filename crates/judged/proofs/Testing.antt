@@ -13,7 +13,7 @@ use Rattle.terms.specs.Passed.{SoundText, SoundLimits}
 use Rattle.terms.specs.declared.limits.Limits.{Limits}
 use Rattle.terms.proofs.Told.{tells-iff, tells-leb, tells-eqb}
 use Rattle.spans.specs.Palindromes.{MaximalLength, errorCount}
-use Rattle.spans.proofs.Exactness.{Bytes, pal-exact}
+use Rattle.spans.proofs.Exactness.{Bytes, errors-same}
 use Rattle.tilings.specs.Tilings.{Part, piece, gap}
 use Rattle.boards.specs.Pieces.{Piece, board}
 use Rattle.boards.proofs.Centred.{maximal-piece, piece-maximal}
@@ -44,11 +44,11 @@ module _ (x : Text) (l : Limits) (a L e : ℕ) where
     some : 1 ≤ L
     some = let y = limited .some in omega arith
 
-    -- kind 1: no error
+    -- kind 1: no error, whatever the alphabet
     pub tells-one : l .kind ≡ 1 → Tells (eqb k 0) (RightPiece x l a L e)
     tells-one one =
         tells-iff _ _ _ (tells-eqb k 0)
-        (λ z. record { is = record { long = long; is = inl (one, pal-exact x (sound .back) bytes a L (record { some = some; inside = inside; few = omega arith })) }; errors = sym c ∙ h })
+        (λ z. record { is = record { long = long; is = inl (one, record { some = some; inside = inside; same = errors-same (x .letters) (x .map) (sound .back) bytes a L (omega arith) }) }; errors = sym c ∙ h })
         (λ p. let y = piece-errors x l a L (p .is) in let d = limited .exact one in omega arith)
 
     -- kind 2: as long as the walk of the centre

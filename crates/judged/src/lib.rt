@@ -8,18 +8,26 @@ use terms::limits::Limits;
 ghost use Prim.Native.Nat.{_+_, _≤_, _<_};
 ghost use lib.ListN.{length};
 ghost use Rattle.terms.specs.Tells.{Tells};
-ghost use Rattle.terms.specs.Texts.{text};
-ghost use Rattle.terms.specs.Passed.{SoundText, SoundLimits};
+ghost use Rattle.terms.specs.Passed.{SoundString, EverySound, SoundLimits};
+ghost use Rattle.spans.specs.Work.{Own};
 ghost use Rattle.reader.specs.Reader.{recordBytes};
 ghost use Rattle.judged.specs.Judged.{Right};
 ghost use Rattle.judged.specs.Work.{RightPiece};
 
 // Whether the len letters from start are a piece with so many errors. For kind 1 no error tells it, for kind 2 the walk of the centre.
-fn right_piece(s: &[u8], map: &[u8], limits: Limits, start: usize, len: usize, errors: u8) -> bool
-    requires { ⌜ SoundText (text (now s) (now map)) ⌝ }
+fn right_piece(
+    s: &[u8],
+    map: &[u8],
+    limits: Limits,
+    start: usize,
+    len: usize,
+    errors: u8,
+    own: bool,
+) -> bool
+    requires { ⌜ SoundString (now s) (now map) ⌝ }
     requires { ⌜ SoundLimits limits ⌝ }
     requires { ⌜ (start < 65536) × (len < 65536) ⌝ }
-    ensures { λ r. ⌜ Tells r (RightPiece (text (now (s .entry)) (now (map .entry))) limits start len errors) ⌝ }
+    ensures { λ r. ⌜ EverySound (now (s .entry)) (now (map .entry)) (Own own) (λ x. Tells r (RightPiece x limits start len errors)) ⌝ }
 {
     let kind = limits.kind;
     let m = limits.m;
@@ -37,16 +45,17 @@ fn right_piece(s: &[u8], map: &[u8], limits: Limits, start: usize, len: usize, e
     if kind == 1 {
         return counted == 0;
     }
-    let found = walk(s, map, d, start + start + len - 1);
+    let found = walk(s, map, d, start + start + len - 1, own);
     len == found.length as usize
 }
 
-// Whether the six bytes from a place are the record of a part of the string.
-pub fn right(s: &[u8], map: &[u8], limits: Limits, file: &[u8], at: usize) -> bool
-    requires { ⌜ SoundText (text (now s) (now map)) ⌝ }
+// Whether the six bytes from a place are the record of a part of the string; `own` says whether the map has an own-partner letter within
+// the alphabet.
+pub fn right(s: &[u8], map: &[u8], limits: Limits, file: &[u8], at: usize, own: bool) -> bool
+    requires { ⌜ SoundString (now s) (now map) ⌝ }
     requires { ⌜ SoundLimits limits ⌝ }
     requires { ⌜ at + 6 ≤ length (now file) ⌝ }
-    ensures { λ r. ⌜ Tells r (Right (text (now (s .entry)) (now (map .entry))) limits (recordBytes (now (file .entry)) at)) ⌝ }
+    ensures { λ r. ⌜ EverySound (now (s .entry)) (now (map .entry)) (Own own) (λ x. Tells r (Right x limits (recordBytes (now (file .entry)) at))) ⌝ }
 {
     let found = record_at(file, at);
     let tag = found.tag;
@@ -54,7 +63,7 @@ pub fn right(s: &[u8], map: &[u8], limits: Limits, file: &[u8], at: usize) -> bo
     let start = found.start;
     let len = found.length;
     if tag == PIECE {
-        return right_piece(s, map, limits, start, len, errors);
+        return right_piece(s, map, limits, start, len, errors, own);
     }
     if tag != GAP {
         return false;

@@ -7,12 +7,15 @@ use native.Mathlib.Omega.{arith}
 use native.Mathlib.Nat.{le-antisymm}
 use lib.ListN.{length}
 use Rattle.terms.proofs.Order.{le-or-lt}
+use Rattle.terms.specs.Alphabets.{allBytes}
 use Rattle.terms.specs.Texts.{Text, text}
+use Rattle.terms.specs.Passed.{SoundString}
+use Rattle.terms.proofs.Passed.{sound-all}
 use Rattle.spans.specs.Palindromes.{ExactPalindrome, DPalindrome, centre, centres, MaximalLength}
 use Rattle.longest.specs.Longest.{FirstLongest}
 use Rattle.longest.specs.Work.{Longer, LongestBelow}
 use Rattle.longest.specs.declared.search.Span.{Span}
-use Rattle.spans.proofs.Exactness.{Back, Bytes, exact-pal, pal-exact}
+use Rattle.spans.proofs.Exactness.{Bytes, exact-pal, pal-exact}
 
 -- A centre's maximal length ends within the string.
 pub length-fits : (x : Text) (d c r : ℕ) → MaximalLength x d c r → r ≤ c + 1
@@ -25,10 +28,10 @@ module _ (s f : List ℕ) where
   pub search-start : LongestBelow s f 0 (record { start = 0; len = 0 })
   search-start = record { is = inl (refl, refl); longest = λ b M p h. absurd (omega arith); first = λ b p h. absurd (omega arith) }
 
-  module _ (back : Back f) (bytes : Bytes s) (c : ℕ) (best next : Span) (r : ℕ) (q : LongestBelow s f c best) (m : MaximalLength (text s f) 0 c r) (l : Longer best c r next) where
+  module _ (sound : SoundString s f) (bytes : Bytes s) (c : ℕ) (best next : Span) (r : ℕ) (q : LongestBelow s f c best) (m : MaximalLength (text s f allBytes) 0 c r) (l : Longer best c r next) where
     -- every exact palindrome of the centre c is no longer than r
     at-centre : (b M : ℕ) → ExactPalindrome s f b M → centre b M ≡ c → M ≤ r
-    at-centre b M p e = m .longest b M (exact-pal (text s f) b M p) e
+    at-centre b M p e = m .longest b M (exact-pal (text s f allBytes) (sound-all s f sound bytes) b M p) e
 
     -- a palindrome at a centre up to c stands below c, or at c
     up-to : (b M : ℕ) → centre b M < c + 1 → (centre b M < c) ⊎ (centre b M ≡ c)
@@ -58,10 +61,10 @@ module _ (s f : List ℕ) where
     taken h =
         let e : next .len ≡ r = l .more h .1 in
         let st : next .start ≡ (c + 1 - r) / 2 = l .more h .0 in
-        let w : (a : ℕ) × DPalindrome (text s f) 0 a r × (centre a r ≡ c) = ⊎-elim (λ (z : r ≡ 0). absurd (omega arith)) (λ (w : (a : ℕ) × DPalindrome (text s f) 0 a r × (centre a r ≡ c)). w) (m .attained) in
+        let w : (a : ℕ) × DPalindrome (text s f allBytes) 0 a r × (centre a r ≡ c) = ⊎-elim (λ (z : r ≡ 0). absurd (omega arith)) (λ (w : (a : ℕ) × DPalindrome (text s f allBytes) 0 a r × (centre a r ≡ c)). w) (m .attained) in
         let k : centre (w .0) r ≡ c = w .2 in
         let a : w .0 ≡ next .start = omega arith in
-        let p : ExactPalindrome s f (next .start) (next .len) = subst₂ (ExactPalindrome s f) a (sym e) (pal-exact (text s f) back bytes (w .0) r (w .1)) in
+        let p : ExactPalindrome s f (next .start) (next .len) = subst₂ (ExactPalindrome s f) a (sym e) (pal-exact (text s f allBytes) (sound .back) bytes (w .0) r (w .1)) in
         record {
           is = inr (p, omega arith);
           longest = λ b M o j.

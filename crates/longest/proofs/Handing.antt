@@ -6,25 +6,25 @@ use native.Mathlib.Omega.{arith}
 use denote.Ref.{RefT, now}
 use Rattle.terms.specs.Refusals.{firstFault}
 use Rattle.terms.specs.Maps.{mapFaults}
-use Rattle.terms.specs.Texts.{text, tooLong, textFaults, pairFaults}
-use Rattle.terms.specs.Passed.{SoundText}
+use Rattle.terms.specs.Texts.{tooLong, stringFaults, pairFaults}
+use Rattle.terms.specs.Passed.{SoundString}
 use Rattle.terms.proofs.Below.{or-left, or-right}
-use Rattle.terms.proofs.Passed.{passed, sound-text}
+use Rattle.terms.proofs.Passed.{passed, sound-string}
 use Rattle.longest.specs.Longest.{PartOf, FirstLongest, HandsLongest, HandsLonger}
 
 module _ (r s : RefT (List ℕ)) (f : List ℕ) (k : ℕ) where
-  pub longest-refused : k ≡ firstFault (textFaults (text (now s) f)) → (k ≡ 0 → ⊥) → PartOf r s 0 0 → HandsLongest r s f
+  pub longest-refused : k ≡ firstFault (stringFaults (now s) f) → (k ≡ 0 → ⊥) → PartOf r s 0 0 → HandsLongest r s f
   longest-refused e n p = record { refused = λ z. p; accepted = λ z. absurd (n (e ∙ z)) }
 
-  pub longest-handed : k ≡ firstFault (textFaults (text (now s) f)) → k ≡ 0 → (a L : ℕ) → FirstLongest (now s) f a L → PartOf r s a L → HandsLongest r s f
+  pub longest-handed : k ≡ firstFault (stringFaults (now s) f) → k ≡ 0 → (a L : ℕ) → FirstLongest (now s) f a L → PartOf r s a L → HandsLongest r s f
   longest-handed e z a L l p = record { refused = λ n. absurd (n (sym e ∙ z)); accepted = λ z. (a, L, l, p) }
 
 -- Where two strings and a map meet no refusal, neither string with the map does.
-pub sound-pair : (s t f : List ℕ) (k : ℕ) → k ≡ firstFault (pairFaults s t f) → k ≡ 0 → SoundText (text s f) × SoundText (text t f)
-unfolding pairFaults textFaults firstFault
+pub sound-pair : (s t f : List ℕ) (k : ℕ) → k ≡ firstFault (pairFaults s t f) → k ≡ 0 → SoundString s f × SoundString t f
+unfolding pairFaults stringFaults firstFault
 sound-pair s t f k e z =
     let a = passed 1 _ (mapFaults f) (omega arith) (sym e ∙ z) in
-    (sound-text (text s f) (simp (or-left (tooLong s) (tooLong t) (a .0)) (a .1)), sound-text (text t f) (simp (or-right (tooLong s) (tooLong t) (a .0)) (a .1)))
+    (sound-string s f (simp (or-left (tooLong s) (tooLong t) (a .0)) (a .1)), sound-string t f (simp (or-right (tooLong s) (tooLong t) (a .0)) (a .1)))
 
 module _ (r s t : RefT (List ℕ)) (f : List ℕ) (k : ℕ) (e : k ≡ firstFault (pairFaults (now s) (now t) f)) where
   pub longer-refused : (k ≡ 0 → ⊥) → PartOf r s 0 0 → HandsLonger r s t f

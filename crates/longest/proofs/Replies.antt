@@ -7,7 +7,7 @@ use native.Mathlib.Omega.{arith}
 use native.Mathlib.Decide.{ℕ-discrete}
 use denote.Ref.{RefT, now}
 use Rattle.terms.specs.Refusals.{firstFault}
-use Rattle.terms.specs.Texts.{text, textFaults, pairFaults}
+use Rattle.terms.specs.Texts.{stringFaults, pairFaults}
 use Rattle.terms.proofs.Order.{le-or-lt}
 use Rattle.longest.specs.Longest.{PartOf, SamePart, OneLongest, OneLonger}
 use Rattle.longest.proofs.Firsts.{longest-one}
@@ -19,9 +19,9 @@ moved : (r s : RefT (List ℕ)) (a L b M : ℕ) → (a ≡ b) × (L ≡ M) → P
 moved r s a L b M e p = subst₂ (PartOf r s) (e .0) (e .1) p
 
 pub longest-reply-unique : OneLongest
-longest-reply-unique r r′ s f p q = elim (ℕ-discrete (firstFault (textFaults (text (now s) f))) 0) [ yes e ↦ given e | no n ↦ part-unique r r′ s 0 0 (p .refused n) (q .refused n) ]
+longest-reply-unique r r′ s f p q = elim (ℕ-discrete (firstFault (stringFaults (now s) f)) 0) [ yes e ↦ given e | no n ↦ part-unique r r′ s 0 0 (p .refused n) (q .refused n) ]
   where
-    given : firstFault (textFaults (text (now s) f)) ≡ 0 → SamePart r r′
+    given : firstFault (stringFaults (now s) f) ≡ 0 → SamePart r r′
     given e =
         let (a, L, l, h) = p .accepted e in
         let (b, M, m, k) = q .accepted e in

@@ -6,7 +6,7 @@ use Prim.Native.Nat.{ℕ, _+_, _≤_, _<_}
 use denote.Ref.{RefT, now}
 use lib.ListN.{length, take, drop}
 use Rattle.terms.specs.Refusals.{firstFault}
-use Rattle.terms.specs.Texts.{text, textFaults, pairFaults}
+use Rattle.terms.specs.Texts.{stringFaults, pairFaults}
 use Rattle.spans.specs.Palindromes.{ExactPalindrome}
 
 -- The longest exact palindrome of s, the first of equals; no letters at the start where s has none.
@@ -24,9 +24,9 @@ pub record PartOf (r s : RefT (List ℕ)) (a L : ℕ) : Type 0 where
 
 -- Of one string: its first longest palindrome. An empty part at the start stands for a refusal.
 pub record HandsLongest (r s : RefT (List ℕ)) (f : List ℕ) : Type 0 where
-  pub refused : (firstFault (textFaults (text (now s) f)) ≡ 0 → ⊥) → PartOf r s 0 0
+  pub refused : (firstFault (stringFaults (now s) f) ≡ 0 → ⊥) → PartOf r s 0 0
   pub accepted :
-      firstFault (textFaults (text (now s) f)) ≡ 0 → (a : ℕ) × (L : ℕ) × FirstLongest (now s) f a L × PartOf r s a L
+      firstFault (stringFaults (now s) f) ≡ 0 → (a : ℕ) × (L : ℕ) × FirstLongest (now s) f a L × PartOf r s a L
 
 -- Of two strings: the longer of their two longest palindromes, as part of the string that holds it; of equals, the first string's.
 pub record HandsLonger (r s t : RefT (List ℕ)) (f : List ℕ) : Type 0 where

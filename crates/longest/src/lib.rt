@@ -3,17 +3,16 @@ mod search;
 
 use crate::search::first_longest;
 use crate::search::part;
-use terms::texts;
 ghost use mathlib.Core.Path.{_≡_};
 ghost use Rattle.terms.specs.Refusals.{firstFault};
-ghost use Rattle.terms.specs.Texts.{text, textFaults, pairFaults};
+ghost use Rattle.terms.specs.Texts.{stringFaults, pairFaults};
 ghost use Rattle.longest.specs.Longest.{HandsLongest, HandsLonger};
 
 // 0, or the refusal of the longest palindrome of a string.
 pub fn longest_refusal(s: &[u8], map: &[u8]) -> usize
-    ensures { λ r. ⌜ r ≡ firstFault (textFaults (text (now (s .entry)) (now (map .entry)))) ⌝ }
+    ensures { λ r. ⌜ r ≡ firstFault (stringFaults (now (s .entry)) (now (map .entry))) ⌝ }
 {
-    texts::refusal(s, map)
+    texts::string_refusal(s, map)
 }
 
 // The first longest exact palindrome, as that part of the caller's own string; an empty part at the start for none and for a refusal.

@@ -1,9 +1,10 @@
 // The first longest exact palindrome of a string.
 use spans::outward::walk;
+use terms::alphabets;
+use texts::flags::own_partner;
 ghost use Prim.Native.Nat.{_+_, _≤_, _<_};
 ghost use lib.ListN.{length};
-ghost use Rattle.terms.specs.Texts.{text};
-ghost use Rattle.terms.specs.Passed.{SoundText};
+ghost use Rattle.terms.specs.Passed.{SoundString};
 ghost use Rattle.longest.specs.Longest.{FirstLongest, PartOf};
 ghost use Rattle.longest.specs.Work.{Longer};
 
@@ -27,16 +28,18 @@ fn longer_of(best: Span, c: usize, length: usize) -> Span
     best
 }
 
-// Through all centres in order: of equal lengths the smaller centre starts earlier.
+// Through all centres in order, with all 256 bytes for alphabet: of equal lengths the smaller centre starts earlier.
 pub(crate) fn first_longest(s: &[u8], map: &[u8]) -> Span
-    requires { ⌜ SoundText (text (now s) (now map)) ⌝ }
+    requires { ⌜ SoundString (now s) (now map) ⌝ }
     ensures { λ r. ⌜ FirstLongest (now (s .entry)) (now (map .entry)) (r .start) (r .len) ⌝ }
 {
     let n = s.len();
+    let all = alphabets::all();
+    let own = own_partner(map, &all);
     let mut best = Span { start: 0, len: 0 };
     let mut c = 0;
     while c + 1 < 2 * n {
-        let found = walk(s, map, 0, c);
+        let found = walk(s, map, 0, c, own);
         best = longer_of(best, c, found.length as usize);
         c += 1;
     }

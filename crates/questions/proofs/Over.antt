@@ -6,7 +6,8 @@ use Prim.Native.Nat.{ℕ, _+_, _*_, _≤_, _<_}
 use native.Mathlib.Omega.{arith}
 use lib.ListN.{length, getD, take, drop, length-map}
 use lib.Seq.{length-take-le}
-use Rattle.terms.specs.Texts.{Text, size}
+use Rattle.terms.specs.Texts.{Text, textAll, size}
+use Rattle.terms.specs.Alphabets.{allBytes}
 use Rattle.terms.specs.Passed.{SoundText, SoundLimits}
 use Rattle.terms.specs.declared.limits.Limits.{Limits}
 use Rattle.spans.specs.Centres.{Holds}
@@ -22,6 +23,7 @@ use Rattle.table.specs.Work.{Known}
 use Rattle.reading.specs.Work.{ReadOut}
 use Rattle.records.specs.Records.{recordSize, recordsFrom}
 use Rattle.records.specs.Work.{Writable}
+use Rattle.records.proofs.Sizes.{records-same}
 use Rattle.questions.specs.Tiling.{refusal, HandsOver}
 use Rattle.questions.specs.declared.Answer.{Answer}
 use Rattle.questions.proofs.Handed.{handing-short, handing-whole}
@@ -41,7 +43,7 @@ module _ (x : Text) (l : Limits) (lens : List ℕ) (sound : SoundText x) (limite
   over-table = over .table (l .g)
 
   -- every tiling can be written: parts lie within the letters, and errors fit a byte
-  writable : (i : ℕ) (ps : List Part) → Tiles (board x l) i ps → Writable x i ps
+  writable : (i : ℕ) (ps : List Part) → Tiles (board x l) i ps → Writable (textAll (x .letters) (x .map)) i ps
   unfolding Writable
   writable i [] t = tt
   writable i (piece L ∷ ps) t =
@@ -87,7 +89,7 @@ module _ (x : Text) (l : Limits) (lens : List ℕ) (sound : SoundText x) (limite
       unfolding ps
       many = length-map (take parts codes) decode ∙ length-take-le parts codes fit
 
-      pub over-writable : Writable x 0 (decoded parts codes)
+      pub over-writable : Writable (textAll (x .letters) (x .map)) 0 (decoded parts codes)
       unfolding ps
       over-writable = writable 0 (decoded parts codes) (given .permitted .tiles)
 
@@ -98,7 +100,7 @@ module _ (x : Text) (l : Limits) (lens : List ℕ) (sound : SoundText x) (limite
           let e = handing-short x ps room (omega arith) in
           inr (ps, given, (λ i. record { number = 12; total = 0; parts = sym m i; gaps = 0 }) ∙ sym (ap (λ (y : Answer × List ℕ). y .0) e), sym (ap (λ (y : Answer × List ℕ). y .1) e))
 
-      pub over-given : u < 65535 → (room room′ : List ℕ) → recordSize * parts ≤ length room → room′ ≡ recordsFrom x 0 (decoded parts codes) ++ drop (recordSize * parts) room
+      pub over-given : u < 65535 → (room room′ : List ℕ) → recordSize * parts ≤ length room → room′ ≡ recordsFrom (textAll (x .letters) (x .map)) 0 (decoded parts codes) ++ drop (recordSize * parts) room
           → HandsOver x l room room′ (record { number = 0; total = u; parts = parts; gaps = count })
       unfolding ps
       over-given z room room′ h q =
@@ -109,5 +111,5 @@ module _ (x : Text) (l : Limits) (lens : List ℕ) (sound : SoundText x) (limite
             ps,
             given,
             (λ i. record { number = 0; total = sym s i; parts = sym m i; gaps = sym (ro .gapped) i }) ∙ sym (ap (λ (y : Answer × List ℕ). y .0) e),
-            q ∙ ap (λ (k : ℕ). recordsFrom x 0 ps ++ drop (recordSize * k) room) (sym m) ∙ sym (ap (λ (y : Answer × List ℕ). y .1) e),
+            q ∙ ap (λ (b : List ℕ). b ++ drop (recordSize * parts) room) (records-same (x .letters) (x .map) allBytes (x .alphabet) 0 ps) ∙ ap (λ (k : ℕ). recordsFrom x 0 ps ++ drop (recordSize * k) room) (sym m) ∙ sym (ap (λ (y : Answer × List ℕ). y .1) e),
           )

@@ -8,8 +8,9 @@ use lib.ListN.{length}
 use Rattle.terms.proofs.Order.{le-or-lt}
 use Rattle.terms.specs.Refusals.{firstFault, OneOf}
 use Rattle.terms.specs.Maps.{mapFaults}
+use Rattle.terms.specs.Alphabets.{alphabetFaults}
 use Rattle.terms.specs.Limits.{limitsFaults}
-use Rattle.terms.specs.Texts.{Text, size, textFaults, openingFaults}
+use Rattle.terms.specs.Texts.{Text, size, stringFaults, textFaults, openingFaults}
 use Rattle.terms.specs.declared.limits.Limits.{Limits}
 use Rattle.terms.proofs.Refusals.{Numbered, numbered-append, opening-numbered, fault-listed, member, absent, one-of-append, tested-first, tested-next}
 use Rattle.tilings.specs.Tilings.{Part, None, Given}
@@ -27,14 +28,14 @@ module _ (x : Text) (l : Limits) where
   table-numbered lent = numbered-append (openingFaults x l) _ (opening-numbered x l) (omega arith, tt)
 
   -- the numbers that the tests may give
-  early-listed : (lent : ℕ) → OneOf (firstFault (tableFaults x l lent)) (0 ∷ 1 ∷ 2 ∷ 3 ∷ 4 ∷ 5 ∷ 11 ∷ [])
-  unfolding tableFaults openingFaults textFaults mapFaults limitsFaults
+  early-listed : (lent : ℕ) → OneOf (firstFault (tableFaults x l lent)) (0 ∷ 1 ∷ 2 ∷ 3 ∷ 18 ∷ 19 ∷ 4 ∷ 5 ∷ 11 ∷ [])
+  unfolding tableFaults openingFaults textFaults stringFaults mapFaults alphabetFaults limitsFaults
   early-listed lent = fault-listed (tableFaults x l lent)
 
   -- so 10 is none of them
   early-ten : (lent : ℕ) → firstFault (tableFaults x l lent) ≡ 10 → ⊥
   unfolding member
-  early-ten lent e = absent 10 (0 ∷ 1 ∷ 2 ∷ 3 ∷ 4 ∷ 5 ∷ 11 ∷ []) refl (rw e at (early-listed lent))
+  early-ten lent e = absent 10 (0 ∷ 1 ∷ 2 ∷ 3 ∷ 18 ∷ 19 ∷ 4 ∷ 5 ∷ 11 ∷ []) refl (rw e at (early-listed lent))
 
   abbrev Laws : List ℕ → List ℕ → List ℕ → List ℕ → Answer → Type 0
   Laws = ReplyLaws x l
@@ -53,8 +54,8 @@ module _ (x : Text) (l : Limits) where
         e : r .number ≡ firstFault (tableFaults x l (length t))
         e = ap (λ (a : Answer). a .number) (f .reply)
 
-        widen : (k : ℕ) → OneOf k (0 ∷ 1 ∷ 2 ∷ 3 ∷ 4 ∷ 5 ∷ 11 ∷ []) → OneOf k tilingNumbers
-        widen k = one-of-append k (0 ∷ 1 ∷ 2 ∷ 3 ∷ 4 ∷ 5 ∷ 11 ∷ []) (10 ∷ 12 ∷ [])
+        widen : (k : ℕ) → OneOf k (0 ∷ 1 ∷ 2 ∷ 3 ∷ 18 ∷ 19 ∷ 4 ∷ 5 ∷ 11 ∷ []) → OneOf k tilingNumbers
+        widen k = one-of-append k (0 ∷ 1 ∷ 2 ∷ 3 ∷ 18 ∷ 19 ∷ 4 ∷ 5 ∷ 11 ∷ []) (10 ∷ 12 ∷ [])
 
     module _ (f : firstFault (tableFaults x l (length t)) ≡ 0) where
       none-laws : None (board x l) 0 (l .g) → r ≡ refusal 10 → Laws t t′ room room′ r
@@ -63,7 +64,7 @@ module _ (x : Text) (l : Limits) where
           let h = board-laws x l .none (l .g) n in
           record {
             number = tested-next _ (r .number) (tableFaults x l (length t)) (table-numbered (length t)) f (inl (n, k));
-            listed = inr (inr (inr (inr (inr (inr (inr (inl k)))))));
+            listed = inr (inr (inr (inr (inr (inr (inr (inr (inr (inl k)))))))));
             ten = λ z. (f, n, h .0, h .1);
             none = λ z y. k;
             few = let z : r .parts ≡ 0 = ap (λ (a : Answer). a .parts) e in omega arith;
@@ -81,7 +82,7 @@ module _ (x : Text) (l : Limits) where
             let k : r .number ≡ 12 = ap (λ (a : Answer). a .number) e in
             record {
               number = tested-next _ (r .number) (tableFaults x l (length t)) (table-numbered (length t)) f (inr (some, inl ((ps, g, h), k)));
-              listed = inr (inr (inr (inr (inr (inr (inr (inr (inl k))))))));
+              listed = inr (inr (inr (inr (inr (inr (inr (inr (inr (inr (inl k))))))))));
               ten = λ z. absurd (omega arith);
               none = λ z y. absurd (some y);
               few = few-parts r (ap (λ (a : Answer). a .parts) e);

@@ -16,13 +16,13 @@ use Rattle.questions.specs.declared.Answer.{Answer}
 abbrev pub NoRoom : Text → Limits → List ℕ → Type 0
 NoRoom x l room = (ps : List Part) × Given (board x l) 0 (l .g) ps × (length room < recordSize * length ps)
 
--- Refusals 1, 2, 3, 4, 5, 11, 10, 12: the whole list in testing order.
+-- Refusals 1, 2, 3, 18, 19, 4, 5, 11, 10, 12: the whole list in testing order.
 abbrev pub tilingFaults : Text → Limits → List ℕ → List ℕ → List (ℕ × Type 0)
 tilingFaults x l table room = tested (tableFaults x l (length table)) ++ (10, None (board x l) 0 (l .g)) ∷ (12, NoRoom x l room) ∷ []
 
 -- The numbers that a reply may have.
 abbrev pub tilingNumbers : List ℕ
-tilingNumbers = 0 ∷ 1 ∷ 2 ∷ 3 ∷ 4 ∷ 5 ∷ 11 ∷ 10 ∷ 12 ∷ []
+tilingNumbers = 0 ∷ 1 ∷ 2 ∷ 3 ∷ 18 ∷ 19 ∷ 4 ∷ 5 ∷ 11 ∷ 10 ∷ 12 ∷ []
 
 pub record ReplyLaws (x : Text) (l : Limits) (table table′ room room′ : List ℕ) (r : Answer) : Type 0 where
   -- the number is that of the first fault that holds, and always in the list

@@ -8,13 +8,12 @@ use table::fill_table;
 use terms::CENTRES;
 use terms::LETTERS;
 use terms::limits::Limits;
-use terms::texts;
 ghost use mathlib.Core.Path.{_≡_};
 ghost use Prim.Native.Nat.{_≤_};
 ghost use lib.ListN.{length};
 ghost use Rattle.terms.specs.Refusals.{firstFault};
 ghost use Rattle.terms.specs.Texts.{text};
-ghost use Rattle.terms.specs.Passed.{SoundText, SoundLimits};
+ghost use Rattle.terms.specs.Passed.{EverySound, SomeSound, SoundLimits};
 ghost use Rattle.spans.specs.Palindromes.{centres};
 ghost use Rattle.spans.specs.Centres.{Holds};
 ghost use Rattle.tilings.specs.Tilings.{entries, Table};
@@ -43,10 +42,10 @@ fn refused(number: usize) -> Answer
 }
 
 // The first refusal that needs no tiling, with `lent` entries for the table, 0 where there is none.
-fn table_refusal(s: &[u8], map: &[u8], limits: Limits, lent: usize) -> usize
-    ensures { λ r. ⌜ r ≡ firstFault (tableFaults (text (now (s .entry)) (now (map .entry))) limits lent) ⌝ }
+fn table_refusal(s: &[u8], map: &[u8], limits: Limits, lent: usize, alphabet: &[u8]) -> usize
+    ensures { λ r. ⌜ r ≡ firstFault (tableFaults (text (now (s .entry)) (now (map .entry)) (now (alphabet .entry))) limits lent) ⌝ }
 {
-    let number = texts::opening_refusal(s, map, limits);
+    let number = texts::opening_refusal(s, map, limits, alphabet);
     if number != 0 {
         return number;
     }
@@ -66,12 +65,11 @@ fn hand_over(
     table: &[u16],
     room: &mut [u8],
 ) -> Answer
-    requires { ⌜ SoundText (text (now s) (now map)) ⌝ }
+    requires { ⌜ SomeSound (now s) (now map) (λ x. Holds x (limits .d) (now lens)) ⌝ }
     requires { ⌜ SoundLimits limits ⌝ }
     requires { ⌜ centres (length (now s)) ≤ length (now lens) ⌝ }
-    requires { ⌜ Holds (text (now s) (now map)) (limits .d) (now lens) ⌝ }
     requires { ⌜ Known (boardBy (now lens) (length (now s)) (limits .kind) (limits .m)) (limits .g) 0 (now table) ⌝ }
-    ensures { λ r. ⌜ HandsOver (text (now (s .entry)) (now (map .entry))) limits (now (room .entry)) (now (room .exit)) r ⌝ }
+    ensures { λ r. ⌜ EverySound (now (s .entry)) (now (map .entry)) (λ x. Holds x (limits .d) (now (lens .entry))) (λ x. HandsOver x limits (now (room .entry)) (now (room .exit)) r) ⌝ }
 {
     let n = s.len();
     let kind = limits.kind;
@@ -110,12 +108,11 @@ fn tile_by(
     table: &mut [u16],
     room: &mut [u8],
 ) -> Answer
-    requires { ⌜ SoundText (text (now s) (now map)) ⌝ }
+    requires { ⌜ SomeSound (now s) (now map) (λ x. Holds x (limits .d) (now lens)) ⌝ }
     requires { ⌜ SoundLimits limits ⌝ }
     requires { ⌜ centres (length (now s)) ≤ length (now lens) ⌝ }
-    requires { ⌜ Holds (text (now s) (now map)) (limits .d) (now lens) ⌝ }
     requires { ⌜ entries (length (now s)) (limits .g) ≤ length (now table) ⌝ }
-    ensures { λ r. ⌜ Table (board (text (now (s .entry)) (now (map .entry))) limits) (limits .g) (now (table .entry)) (now (table .exit)) × HandsOver (text (now (s .entry)) (now (map .entry))) limits (now (room .entry)) (now (room .exit)) r ⌝ }
+    ensures { λ r. ⌜ EverySound (now (s .entry)) (now (map .entry)) (λ x. Holds x (limits .d) (now (lens .entry))) (λ x. Table (board x limits) (limits .g) (now (table .entry)) (now (table .exit)) × HandsOver x limits (now (room .entry)) (now (room .exit)) r) ⌝ }
 {
     let n = s.len();
     let kind = limits.kind;
@@ -126,15 +123,22 @@ fn tile_by(
 }
 
 // The tiling question: fills the table, and writes the records of the tiling given.
-pub fn tile(s: &[u8], map: &[u8], limits: Limits, table: &mut [u16], room: &mut [u8]) -> Answer
-    ensures { λ r. ⌜ TilingReply (text (now (s .entry)) (now (map .entry))) limits (now (table .entry)) (now (table .exit)) (now (room .entry)) (now (room .exit)) r ⌝ }
+pub fn tile(
+    s: &[u8],
+    map: &[u8],
+    limits: Limits,
+    table: &mut [u16],
+    room: &mut [u8],
+    alphabet: &[u8],
+) -> Answer
+    ensures { λ r. ⌜ TilingReply (text (now (s .entry)) (now (map .entry)) (now (alphabet .entry))) limits (now (table .entry)) (now (table .exit)) (now (room .entry)) (now (room .exit)) r ⌝ }
 {
-    let fault = table_refusal(s, map, limits, table.len());
+    let fault = table_refusal(s, map, limits, table.len(), alphabet);
     if fault != 0 {
         return refused(fault);
     }
     let mut lens = [0u16; CENTRES];
     let d = limits.d;
-    fill_lengths(s, map, d, &mut lens);
+    fill_lengths(s, map, d, &mut lens, alphabet);
     tile_by(s, map, &lens, limits, table, room)
 }

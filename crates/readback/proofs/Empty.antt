@@ -7,26 +7,29 @@ use native.Mathlib.Omega.{arith}
 use native.Mathlib.Nat.{div-eq-of-lt}
 use lib.ListN.{length, getD, replicate, length-replicate, getD-replicate}
 use Rattle.terms.specs.Refusals.{firstFault}
-use Rattle.terms.specs.Texts.{size, textFaults, openingFaults}
+use Rattle.terms.specs.Maps.{everyBelow, ownInverse, mapFaults, plainMap, complementMap}
+use Rattle.terms.specs.Alphabets.{allBytes, closedUnder, spelt, alphabetFaults}
+use Rattle.terms.specs.Texts.{size, stringFaults, textFaults, openingFaults}
 use Rattle.terms.specs.declared.limits.Limits.{Limits}
 use Rattle.terms.proofs.Refusals.{text-passes}
-use Rattle.terms.proofs.Supplied.{plain-passes, complement-passes}
 use Rattle.tilings.specs.Tilings.{Part, Permitted, Given, Entry, entries}
 use Rattle.boards.specs.Pieces.{board}
 use Rattle.boards.proofs.Laws.{board-laws}
-use Rattle.readback.specs.Shown.{Map, plain, complement, textOf}
+use Rattle.readback.specs.Shown.{Map, plain, complement, strand, bases, textOf}
 use Rattle.readback.specs.Samples.{EmptyShown}
 use Rattle.readback.proofs.Showing.{tiling-replies}
 
 -- its string and map meet no refusal
 text-clear : (f : Map) → firstFault (textFaults (textOf f [])) ≡ 0
-unfolding textFaults firstFault
-text-clear plain = plain-passes
-text-clear complement = complement-passes
+unfolding textFaults stringFaults mapFaults ownInverse alphabetFaults closedUnder spelt everyBelow firstFault plainMap complementMap allBytes bases
+text-clear plain = refl
+text-clear complement = refl
+text-clear strand = refl
 
 no-letters : (f : Map) → size (textOf f []) ≡ 0
 no-letters plain = refl
 no-letters complement = refl
+no-letters strand = refl
 
 module _ (f : Map) (l : Limits) where
   -- it is tiled by no parts, and by nothing else

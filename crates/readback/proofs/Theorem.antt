@@ -10,8 +10,9 @@ use lib.Dec.{leb, ltb, eqb}
 use lib.ListN.{length, getD, take}
 use Rattle.terms.specs.Refusals.{firstFault}
 use Rattle.terms.specs.Maps.{everyBelow, ownInverse, mapFaults, plainMap, complementMap}
+use Rattle.terms.specs.Alphabets.{allBytes, someBelow, ownPartner, closedUnder, spelt, alphabetFaults}
 use Rattle.terms.specs.Limits.{wrongKind, tooManyErrors, outOfRange, limitsFaults}
-use Rattle.terms.specs.Texts.{Text, size, textFaults, openingFaults}
+use Rattle.terms.specs.Texts.{Text, size, textFaults, openingFaults, stringFaults}
 use Rattle.terms.specs.Tells.{Tells}
 use Rattle.terms.specs.declared.limits.Limits.{Limits}
 use Rattle.terms.proofs.Below.{and-left, and-right, below-at}
@@ -28,7 +29,7 @@ use Rattle.boards.proofs.Transfer.{Transfer, transfer}
 use Rattle.records.specs.Records.{recordSize, recordsFrom}
 use Rattle.questions.specs.Tiling.{TilingReply}
 use Rattle.questions.specs.declared.Answer.{Answer}
-use Rattle.readback.specs.Shown.{textOf, Line, P, G, linesFrom, partsOf, Sample, tiling, noTiling, allCentres, TilingShown, NoneShown, CentresShown, Shown, AllShown}
+use Rattle.readback.specs.Shown.{bases, textOf, Line, P, G, linesFrom, partsOf, Sample, tiling, noTiling, allCentres, TilingShown, NoneShown, CentresShown, Shown, AllShown}
 use Rattle.readback.specs.Samples.{samples}
 use Rattle.readback.proofs.Lengths.{outward, longest, lengthsOf, lengths-held}
 use Rattle.readback.proofs.Deciding.{implies, everyTiling, sooner?, same?, upfront?, better?, tiles?, permitted?, entry?, given?-is, none?-is, entry?-is}
@@ -192,7 +193,7 @@ centres-shown : (x : Text) (d : ℕ) (T : List ℕ) → firstFault (textFaults x
 unfolding lengthsOf
 centres-shown x d T o h e =
     let held : Holds x d T = subst (Holds x d) e (lengths-held x d) in
-    let long : length T ≡ centres (size x) = ap length (sym e) ∙ values-length (longest x d) 0 (centres (size x)) in
+    let long : length T ≡ centres (size x) = ap length (sym e) ∙ values-length (longest (ownPartner (x .map) (x .alphabet)) x d) 0 (centres (size x)) in
     record { long = long; held = held; replies = centres-replies x d o h T long held }
 
 -- The test of an example, and what it says.
@@ -239,5 +240,5 @@ shown-all (e ∷ es) t = (shown-is e (and-left _ _ t), shown-all es (and-right (
 
 -- The theorem: every example of the table holds.
 pub all-shown : AllShown samples
-unfolding shownAll? shown? accepted? small? given? printed? line? lines? numbers? piece? implies everyTiling sooner? same? upfront? better? tiles? permitted? entry? lengthsOf longest outward one count wrongPair wrongMiddle errorCount firstFault openingFaults textFaults mapFaults limitsFaults wrongKind outOfRange tooManyErrors ownInverse everyBelow plainMap complementMap
+unfolding shownAll? shown? accepted? small? given? printed? line? lines? numbers? piece? implies everyTiling sooner? same? upfront? better? tiles? permitted? entry? lengthsOf longest outward one count wrongPair wrongMiddle errorCount firstFault openingFaults textFaults mapFaults limitsFaults wrongKind outOfRange tooManyErrors ownInverse everyBelow plainMap complementMap stringFaults alphabetFaults closedUnder spelt ownPartner someBelow allBytes bases
 all-shown = shown-all samples refl

@@ -6,7 +6,7 @@ use lib.ListN.{replicate}
 use Rattle.terms.specs.Refusals.{firstFault}
 use Rattle.terms.specs.Limits.{limitsFaults}
 use Rattle.terms.specs.declared.limits.Limits.{Limits}
-use Rattle.readback.specs.Shown.{Map, textOf, TilingShown, Sample, tiling, noTiling, allCentres, plain, complement, P, G}
+use Rattle.readback.specs.Shown.{Map, textOf, TilingShown, Sample, tiling, noTiling, allCentres, plain, complement, strand, P, G}
 
 abbrev pub limits : ℕ → ℕ → ℕ → ℕ → Limits
 limits k m g d = record { kind = k; m = m; g = g; d = d }
@@ -42,6 +42,7 @@ samples =
     ∷ tiling plain GTATCG (limits 2 1 0 1) 0 0 (P 0 5 1 ∷ P 5 1 0 ∷ []) []
     ∷ tiling complement TAGTCGACTA (limits 1 10 0 0) 0 0 (P 0 10 0 ∷ []) []
     ∷ tiling complement ACT (limits 2 3 0 1) 0 0 (P 0 3 1 ∷ []) []
+    ∷ noTiling strand ACT (limits 2 3 0 1)
     ∷ []
 
 -- The first of them for every map and all limits: no letters, total 0, no parts, table g + 1 zeros.

@@ -1,10 +1,12 @@
 -- What an example shows, and when it holds: of the definitions, and of every reply that the promises allow.
 use mathlib.Core.Path.{_≡_}
+use mathlib.Core.Bool.{cond, _||_}
 use mathlib.Core.List.{List, [], _∷_}
 use Prim.Native.Nat.{ℕ, _+_, _*_, _≤_}
+use lib.Dec.{eqb}
 use lib.ListN.{length, take}
-use Rattle.terms.specs.Maps.{plainMap, complementMap}
-use Rattle.terms.specs.Texts.{Text, text, size}
+use Rattle.terms.specs.Maps.{valuesFrom, plainMap, complementMap}
+use Rattle.terms.specs.Texts.{Text, text, textAll, size}
 use Rattle.terms.specs.declared.limits.Limits.{Limits}
 use Rattle.spans.specs.Palindromes.{centres}
 use Rattle.spans.specs.Centres.{Holds, CentresReply}
@@ -16,13 +18,18 @@ use Rattle.records.specs.Records.{recordSize, errorsOf, recordsFrom}
 use Rattle.questions.specs.Tiling.{refusal, TilingReply}
 use Rattle.questions.specs.declared.Answer.{Answer}
 
--- The map of an example.
+-- The alphabet A, C, G, T.
+unfoldable pub bases : List ℕ
+bases = valuesFrom 0 256 (λ b. cond (eqb b 65 || (eqb b 67 || (eqb b 71 || eqb b 84))) 1 0)
+
+-- The map of an example, with all 256 bytes for alphabet; or the complement with A, C, G, T.
 pub data Map : Type 0 where
-  plain complement : Map
+  plain complement strand : Map
 
 abbrev pub textOf : Map → List ℕ → Text
-textOf plain s = text s plainMap
-textOf complement s = text s complementMap
+textOf plain s = textAll s plainMap
+textOf complement s = textAll s complementMap
+textOf strand s = text s complementMap bases
 
 -- A part as it is read out: piece or gap, its start, its length, its errors.
 pub data Line : Type 0 where

@@ -24,7 +24,7 @@ errorsOf x i (gap L) = 0
 abbrev pub recordOf : Text → ℕ → Part → List ℕ
 recordOf x i p = tagOf p ∷ errorsOf x i p ∷ i / 256 ∷ i % 256 ∷ lengthOf p / 256 ∷ lengthOf p % 256 ∷ []
 
--- The records of the parts from place i on, one after the other.
+-- The records of the parts from place i on, one after the other. The alphabet plays no part in them.
 abbrev pub recordsFrom : Text → ℕ → List Part → List ℕ
 recordsFrom x i [] = []
 recordsFrom x i (p ∷ ps) = recordOf x i p ++ recordsFrom x (i + lengthOf p) ps

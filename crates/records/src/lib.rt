@@ -4,7 +4,7 @@ ghost use mathlib.Core.Path.{_≡_};
 ghost use mathlib.Core.List.{[], _∷_, _++_};
 ghost use Prim.Native.Nat.{_+_, _*_, _/_, _%_, _≤_};
 ghost use lib.ListN.{length, take, drop};
-ghost use Rattle.terms.specs.Texts.{text};
+ghost use Rattle.terms.specs.Texts.{textAll};
 ghost use Rattle.tilings.specs.Laws.{lengthOf};
 ghost use Rattle.tilings.specs.Work.{decode, decoded};
 ghost use Rattle.records.specs.Records.{recordSize, recordOf, recordsFrom};
@@ -29,8 +29,8 @@ fn put_record(room: &mut [u8], at: usize, tag: u8, errors: u8, start: usize, len
 // Record number k is the part numbered code, from place i; where the next part begins.
 fn put_part(s: &[u8], map: &[u8], code: u16, i: usize, k: usize, room: &mut [u8]) -> usize
     requires { ⌜ (length (now map) ≡ 256) × (length (now s) ≤ 1000) × (k ≤ 1000) × (recordSize * k + recordSize ≤ length (now room)) ⌝ }
-    requires { ⌜ Fit (text (now s) (now map)) i (decode code) ⌝ }
-    ensures { λ r. ⌜ (r ≡ i + lengthOf (decode code)) × (now (room .exit) ≡ take (recordSize * k) (now (room .entry)) ++ recordOf (text (now (s .entry)) (now (map .entry))) i (decode code) ++ drop (recordSize * k + recordSize) (now (room .entry))) ⌝ }
+    requires { ⌜ Fit (textAll (now s) (now map)) i (decode code) ⌝ }
+    ensures { λ r. ⌜ (r ≡ i + lengthOf (decode code)) × (now (room .exit) ≡ take (recordSize * k) (now (room .entry)) ++ recordOf (textAll (now (s .entry)) (now (map .entry))) i (decode code) ++ drop (recordSize * k + recordSize) (now (room .entry))) ⌝ }
 {
     let c = code as usize;
     let len = c / 2;
@@ -46,8 +46,8 @@ fn put_part(s: &[u8], map: &[u8], code: u16, i: usize, k: usize, room: &mut [u8]
 // The records of the first parts; later bytes stay.
 pub fn put_parts(s: &[u8], map: &[u8], codes: &[u16], parts: usize, room: &mut [u8])
     requires { ⌜ (length (now map) ≡ 256) × (length (now s) ≤ 1000) × (parts ≤ 1000) × (parts ≤ length (now codes)) × (recordSize * parts ≤ length (now room)) ⌝ }
-    requires { ⌜ Writable (text (now s) (now map)) 0 (decoded parts (now codes)) ⌝ }
-    ensures { λ _. ⌜ now (room .exit) ≡ recordsFrom (text (now (s .entry)) (now (map .entry))) 0 (decoded parts (now (codes .entry))) ++ drop (recordSize * parts) (now (room .entry)) ⌝ }
+    requires { ⌜ Writable (textAll (now s) (now map)) 0 (decoded parts (now codes)) ⌝ }
+    ensures { λ _. ⌜ now (room .exit) ≡ recordsFrom (textAll (now (s .entry)) (now (map .entry))) 0 (decoded parts (now (codes .entry))) ++ drop (recordSize * parts) (now (room .entry)) ⌝ }
 {
     let mut k = 0;
     let mut i = 0;

@@ -7,8 +7,9 @@ use native.Mathlib.Omega.{arith}
 use lib.ListN.{length, take, drop}
 use lib.Seq.{take-at, drop-append-add}
 use Rattle.terms.specs.Refusals.{firstFault, FirstFault, OneOf}
-use Rattle.terms.specs.Texts.{Text, size, textFaults, openingFaults}
+use Rattle.terms.specs.Texts.{Text, size, stringFaults, textFaults, openingFaults}
 use Rattle.terms.specs.Maps.{mapFaults}
+use Rattle.terms.specs.Alphabets.{alphabetFaults}
 use Rattle.terms.specs.Limits.{limitsFaults}
 use Rattle.terms.specs.declared.limits.Limits.{Limits}
 use Rattle.terms.proofs.Refusals.{fault-unique}
@@ -71,7 +72,7 @@ module _ (x : Text) (l : Limits) where
     yes-reply z a = reply-yes x l file 0 (sym z) refl (agrees-even a) (agrees-right a) a
 
     pub agree-laws : AgreeLaws x l file
-    unfolding fileFaults openingFaults textFaults mapFaults limitsFaults
+    unfolding fileFaults openingFaults textFaults stringFaults mapFaults alphabetFaults limitsFaults
     agree-laws =
         record {
           yes = λ r. (untested x l file 0 r refl, r .yes refl);

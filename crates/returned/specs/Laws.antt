@@ -15,5 +15,5 @@ pub record AgreeLaws (x : Text) (l : Limits) (file : List ℕ) : Type 0 where
   -- records that agree are handed out by the reader, part by part from the start of the file
   pub handed : (a : Agrees x l file) → HandsOut x file 0 0 (a .parts)
   -- the number is always in the list, and two answers to one question are equal
-  pub listed : (k : ℕ) → AgreeReply x l file k → OneOf k (0 ∷ 1 ∷ 2 ∷ 3 ∷ 4 ∷ 5 ∷ 15 ∷ 16 ∷ 17 ∷ [])
+  pub listed : (k : ℕ) → AgreeReply x l file k → OneOf k (0 ∷ 1 ∷ 2 ∷ 3 ∷ 18 ∷ 19 ∷ 4 ∷ 5 ∷ 15 ∷ 16 ∷ 17 ∷ [])
   pub one : (j k : ℕ) → AgreeReply x l file j → AgreeReply x l file k → j ≡ k

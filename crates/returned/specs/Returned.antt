@@ -1,4 +1,4 @@
--- Whether returned records still agree with a string, its map and its limits (02, L1).
+-- Whether returned records still agree with a string, its map, its limits and its alphabet (02, L1).
 use mathlib.Core.Path.{_≡_}
 use mathlib.Core.Bool.{Bool, not}
 use mathlib.Core.List.{List, [], _∷_, _++_}

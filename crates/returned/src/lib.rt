@@ -1,10 +1,10 @@
-// Part records that come back: whether they still agree with a string, its map and its limits.
+// Part records that come back: whether they still agree with a string, its map, its limits and its alphabet.
 use judged::right;
 use reader::GAP;
 use reader::record_at;
 use records::SIZE;
 use terms::limits::Limits;
-use terms::texts;
+use texts::flags::own_partner;
 ghost use mathlib.Core.Path.{_≡_};
 ghost use Prim.Native.Nat.{_%_};
 ghost use lib.ListN.{length};
@@ -14,15 +14,16 @@ ghost use Rattle.returned.specs.Returned.{AgreeReply};
 ghost use Rattle.returned.specs.Work.{Judged, Decides, gapCount};
 
 // Whether every record is a right part.
-fn all_right(s: &[u8], map: &[u8], limits: Limits, file: &[u8]) -> bool
-    requires { ⌜ SoundText (text (now s) (now map)) ⌝ }
+fn all_right(s: &[u8], map: &[u8], limits: Limits, file: &[u8], alphabet: &[u8]) -> bool
+    requires { ⌜ SoundText (text (now s) (now map) (now alphabet)) ⌝ }
     requires { ⌜ SoundLimits limits ⌝ }
     requires { ⌜ length (now file) % 6 ≡ 0 ⌝ }
-    ensures { λ r. ⌜ Judged r (text (now (s .entry)) (now (map .entry))) limits (now (file .entry)) ⌝ }
+    ensures { λ r. ⌜ Judged r (text (now (s .entry)) (now (map .entry)) (now (alphabet .entry))) limits (now (file .entry)) ⌝ }
 {
+    let own = own_partner(map, alphabet);
     let mut at = 0;
     while at < file.len() {
-        if !right(s, map, limits, file, at) {
+        if !right(s, map, limits, file, at, own) {
             return false;
         }
         at += SIZE;
@@ -68,17 +69,17 @@ fn tiles(file: &[u8], n: usize, g: usize) -> bool
 }
 
 // Whether returned records are a permitted tiling: 0 says yes, else the number of the first refusal.
-pub fn agree(s: &[u8], map: &[u8], limits: Limits, file: &[u8]) -> usize
-    ensures { λ r. ⌜ AgreeReply (text (now (s .entry)) (now (map .entry))) limits (now (file .entry)) r ⌝ }
+pub fn agree(s: &[u8], map: &[u8], limits: Limits, file: &[u8], alphabet: &[u8]) -> usize
+    ensures { λ r. ⌜ AgreeReply (text (now (s .entry)) (now (map .entry)) (now (alphabet .entry))) limits (now (file .entry)) r ⌝ }
 {
-    let number = texts::opening_refusal(s, map, limits);
+    let number = texts::opening_refusal(s, map, limits, alphabet);
     if number != 0 {
         return number;
     }
     if file.len() % SIZE != 0 {
         return 15;
     }
-    if !all_right(s, map, limits, file) {
+    if !all_right(s, map, limits, file, alphabet) {
         return 16;
     }
     let g = limits.g;

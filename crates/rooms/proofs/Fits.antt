@@ -11,7 +11,8 @@ use lib.ListN.{length, drop}
 use Rattle.terms.specs.Refusals.{firstFault, OneOf}
 use Rattle.terms.specs.Maps.{mapFaults}
 use Rattle.terms.specs.Limits.{limitsFaults}
-use Rattle.terms.specs.Texts.{Text, text, textFaults, openingFaults}
+use Rattle.terms.specs.Alphabets.{alphabetFaults}
+use Rattle.terms.specs.Texts.{Text, textAll, stringFaults, textFaults, openingFaults}
 use Rattle.terms.specs.declared.limits.Limits.{Limits}
 use Rattle.terms.proofs.Refusals.{numbers, fault-listed}
 use Rattle.terms.proofs.Passed.{passed, not-off, sound-limits, sound-opening}
@@ -77,10 +78,10 @@ done-byte (ChangedLimits old new) h = tt
 -- each call on a sheet says short numbers
 module _ (s : Sheet) (b : Bytes s) where
   -- an edit that is accepted, with k changes standing
-  edit-small : (e : Edit) (k : ℕ) → s .n ≤ 1000 → accepts (s .n) e ≡ true → ByteOf e → k ≤ 64 → Small (saidBy e s k)
+  edit-small : (e : Edit) (k : ℕ) → s .n ≤ 1000 → accepts (s .n) (s .alphabet) e ≡ true → ByteOf e → k ≤ 64 → Small (saidBy e s k)
   unfolding accepts
   edit-small (EditLetter p c) k n a h few =
-      record { number = omega arith; values = (omega (arith, place-inside (s .n) p c a), (omega (arith, b .letters p), (omega arith, (omega arith, tt)))) }
+      record { number = omega arith; values = (omega (arith, place-inside (s .n) (s .alphabet) p c a), (omega (arith, b .letters p), (omega arith, (omega arith, tt)))) }
   edit-small (EditLimits l) k n a h few =
       let w = sound-limits l (eqb-true _ _ a) in
       let kind : l .kind ≤ 2 = ⊎-elim (λ (e : l .kind ≡ 1). omega arith) (λ (e : l .kind ≡ 2). omega arith) (w .kind) in
@@ -90,7 +91,7 @@ module _ (s : Sheet) (b : Bytes s) where
   letter-small : (p c : ℕ) → c ≤ 255 → Small (letterCall s p c .said)
   unfolding letterFaults changed
   letter-small p c h =
-      answered-small (letterFaults s p) _ _ (omega arith, (omega arith, (omega arith, tt)))
+      answered-small (letterFaults s p c) _ _ (omega arith, (omega arith, (omega arith, (omega arith, tt))))
       (λ e. let w = letter-sound s p c e in edit-small (EditLetter p c) (s .standing + 1) (w .0) (w .1) (omega arith) (omega (arith, w .2)))
 
   -- limits
@@ -128,9 +129,9 @@ module _ (s : Sheet) (b : Bytes s) where
 
 -- so does an opening
 open-small : (x : Text) (l : Limits) → Small (openCall x l .said)
-unfolding openingFaults textFaults mapFaults limitsFaults
+unfolding openingFaults textFaults stringFaults mapFaults alphabetFaults limitsFaults
 open-small x l =
-    answered-small (openingFaults x l) _ _ (omega arith, (omega arith, (omega arith, (omega arith, (omega arith, tt)))))
+    answered-small (openingFaults x l) _ _ (omega arith, (omega arith, (omega arith, (omega arith, (omega arith, (omega arith, (omega arith, tt)))))))
     (λ e. record { number = omega arith; values = (omega (arith, sound-opening x l (sym e) .0 .short), (omega arith, tt)) })
 
 -- a question: its refusal, or the tiling given
@@ -162,7 +163,7 @@ calling-length d r show h = go (d .opened)
 module _ (d : Desk) (xs : List ℕ) (b : Bytes (d .sheet)) (t t′ m m′ : List ℕ) where
   text-length : (line : Line) (o : Desk × List ℕ) → Reads xs line → Does d xs line t t′ m m′ o → length (o .1) ≤ 65536
   unfolding opening
-  text-length (Open l c from) o q p = rw (p .0) (omega (arith, said-length _ (open-small (text (drop from xs) (mapOf c)) l)))
+  text-length (Open l c from) o q p = rw (p .0) (omega (arith, said-length _ (open-small (textAll (drop from xs) (mapOf c)) l)))
   text-length (Letter a c) o q p = rw (p .0) (calling-length d _ saidText (omega (arith, said-length _ (letter-small (d .sheet) b a c (q .proper .1)))))
   text-length (NewLimits l) o q p = rw (p .0) (calling-length d _ saidText (omega (arith, said-length _ (limits-small (d .sheet) b l))))
   text-length TakeBack o q p = rw (p .0) (calling-length d _ (restoredText 66) (restored-length 66 _ (back-small (d .sheet) b)))

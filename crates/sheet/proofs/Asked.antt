@@ -7,14 +7,15 @@ use Prim.Native.Nat.{ℕ, _*_, _≤_}
 use native.Mathlib.Omega.{arith}
 use borrow.Author.Tests.{le-ltb}
 use lib.Dec.{T, ltb}
-use lib.ListN.{length, length-take}
+use lib.ListN.{length}
 use Rattle.terms.specs.Refusals.{firstFault, OneOf}
 use Rattle.terms.specs.Maps.{mapFaults}
+use Rattle.terms.specs.Alphabets.{alphabetFaults}
 use Rattle.terms.specs.Limits.{limitsFaults}
-use Rattle.terms.specs.Texts.{Text, size, textFaults, openingFaults}
+use Rattle.terms.specs.Texts.{Text, size, stringFaults, openingFaults}
 use Rattle.terms.specs.declared.limits.Limits.{Limits}
 use Rattle.terms.proofs.Order.{le-or-lt}
-use Rattle.terms.proofs.Refusals.{opening-numbered, text-passes, fault-stays, fault-goes-on, fault-listed, one-of-append}
+use Rattle.terms.proofs.Refusals.{opening-numbered, string-passes, text-passes, fault-stays, fault-goes-on, fault-listed, one-of-append}
 use Rattle.tilings.specs.Tilings.{Part, entries}
 use Rattle.records.specs.Records.{recordSize}
 use Rattle.questions.specs.Tiling.{tableFaults, handing, TilingReply}
@@ -27,10 +28,10 @@ use Rattle.sheet.specs.declared.Sheet.{Sheet}
 use Rattle.sheet.proofs.Within.{bounds}
 
 module _ (x : Text) (l : Limits) where
-  -- An opening has no fault where its string is no longer than 1,000, its map passes and its limits pass.
-  pub opening-passes : size x ≤ 1000 → firstFault (mapFaults (x .map)) ≡ 0 → firstFault (limitsFaults l) ≡ 0 → firstFault (openingFaults x l) ≡ 0
-  unfolding textFaults firstFault
-  opening-passes n f g = sym (text-passes x l 0 0 (simp (le-ltb _ _ n) (sym f)) refl (sym g))
+  -- An opening has no fault where its string is no longer than 1,000, and its map, alphabet and limits pass.
+  pub opening-passes : size x ≤ 1000 → firstFault (mapFaults (x .map)) ≡ 0 → firstFault (alphabetFaults (x .letters) (x .map) (x .alphabet)) ≡ 0 → firstFault (limitsFaults l) ≡ 0 → firstFault (openingFaults x l) ≡ 0
+  unfolding stringFaults firstFault
+  opening-passes n f a g = sym (text-passes x l 0 0 (string-passes x 0 0 (simp (le-ltb _ _ n) (sym f)) refl (sym a)) refl (sym g))
 
   module _ (t t′ room room′ : List ℕ) (r : Answer) (p : TilingReply x l t t′ room room′ r) where
     -- A fault of the opening's is the question's.
@@ -68,10 +69,7 @@ module _ (x : Text) (l : Limits) where
 
 -- What a sheet in its bounds holds could be opened.
 pub content-opens : (s : Sheet) → inBounds s ≡ true → firstFault (openingFaults (textOf s) (s .limits)) ≡ 0
-content-opens s w =
-    let b = bounds s w in
-    let n : s .n ≤ 1000 = b .letters in
-    opening-passes (textOf s) (s .limits) (simp length-take (omega arith)) (b .map) (b .limits)
+content-opens s w = bounds s w .opens
 
 module _ (s : Sheet) (t m : List ℕ) where
   -- Out of bounds 24; in bounds what the question without a sheet gives, the opening's faults left out.

@@ -1,17 +1,18 @@
 -- What each call gives: a refusal by its first fault, or what is accepted. Assumes nothing.
-use mathlib.Core.Path.{_≡_, refl, sym, ap, ap₂, _∙_}
+use mathlib.Core.Path.{_≡_, refl, sym, ap, _∙_}
 use mathlib.Core.Bool.{Bool, true, false, not}
 use mathlib.Core.List.{List, [], _∷_, _++_}
 use Prim.Native.Nat.{ℕ, _+_, _-_, _≤_, _<_}
 use native.Mathlib.Omega.{arith}
 use borrow.Author.Tests.{le-leb, lt-leb, eq-eqb, ne-eqb, eqb-true, eqb-false, ltb-true, lt-ltb, leb-false}
-use lib.Dec.{leb, eqb}
+use lib.Dec.{leb, eqb, ltb}
 use lib.ListN.{length}
 use Rattle.terms.specs.Refusals.{firstFault}
+use Rattle.terms.specs.Alphabets.{isIn}
 use Rattle.terms.specs.Limits.{limitsFaults}
 use Rattle.terms.specs.Texts.{Text, openingFaults}
 use Rattle.terms.specs.declared.limits.Limits.{Limits}
-use Rattle.terms.proofs.Below.{and-left, and-right, below-at}
+use Rattle.terms.proofs.Below.{and-yes, and-left, and-right, below-at}
 use Rattle.terms.proofs.Passed.{passed, not-off}
 use Rattle.terms.proofs.Refusals.{limits-numbered, fault-none, fault-first, fault-next}
 use Rattle.changes.specs.Changes.{doneOf, backOf, accepts, acceptsChange}
@@ -66,23 +67,29 @@ unfolding changed
 changed-accepted s e = said-accepted e s (s .standing + 1)
 
 -- The faults of each call.
-module _ (s : Sheet) (p : ℕ) where
-  pub letter-24 : inBounds s ≡ false → 24 ≡ firstFault (letterFaults s p)
+module _ (s : Sheet) (p b : ℕ) where
+  pub letter-24 : inBounds s ≡ false → 24 ≡ firstFault (letterFaults s p b)
   unfolding letterFaults firstFault
   letter-24 w = simp w
 
   module _ (w : inBounds s ≡ true) where
-    pub letter-6 : s .n ≤ p → 6 ≡ firstFault (letterFaults s p)
+    pub letter-6 : s .n ≤ p → 6 ≡ firstFault (letterFaults s p b)
     unfolding letterFaults firstFault
     letter-6 h = simp (w, le-leb _ _ h)
 
-    pub letter-7 : p < s .n → leb 64 (s .standing) ≡ true → 7 ≡ firstFault (letterFaults s p)
-    unfolding letterFaults firstFault
-    letter-7 h k = simp (w, lt-leb _ _ h, k)
+    module _ (h : p < s .n) where
+      pub letter-19 : isIn (s .alphabet) b ≡ false → 19 ≡ firstFault (letterFaults s p b)
+      unfolding letterFaults firstFault
+      letter-19 z = simp (w, lt-leb _ _ h, z)
 
-    pub letter-0 : p < s .n → leb 64 (s .standing) ≡ false → 0 ≡ firstFault (letterFaults s p)
-    unfolding letterFaults firstFault
-    letter-0 h k = simp (w, lt-leb _ _ h, k)
+      module _ (z : isIn (s .alphabet) b ≡ true) where
+        pub letter-7 : leb 64 (s .standing) ≡ true → 7 ≡ firstFault (letterFaults s p b)
+        unfolding letterFaults firstFault
+        letter-7 k = simp (w, lt-leb _ _ h, z, k)
+
+        pub letter-0 : leb 64 (s .standing) ≡ false → 0 ≡ firstFault (letterFaults s p b)
+        unfolding letterFaults firstFault
+        letter-0 k = simp (w, lt-leb _ _ h, z, k)
 
 module _ (s : Sheet) (l : Limits) where
   pub limits-24 : inBounds s ≡ false → 24 ≡ firstFault (limitsCallFaults s l)
@@ -145,29 +152,29 @@ module _ (s : Sheet) where
     again-number h = simp w h
 
 -- An edit of a letter that is accepted has its place inside.
-pub place-inside : (n p b : ℕ) → accepts n (Letter p b) ≡ true → p < n
+pub place-inside : (n : ℕ) (z : List ℕ) (p b : ℕ) → accepts n z (Letter p b) ≡ true → p < n
 unfolding accepts
-place-inside n p b e = ltb-true p n e
+place-inside n z p b e = ltb-true p n (and-left (ltb p n) (isIn z b) e)
 
-pub inside-place : (n p b : ℕ) → p < n → accepts n (Letter p b) ≡ true
+pub inside-place : (n : ℕ) (z : List ℕ) (p b : ℕ) → p < n → isIn z b ≡ true → accepts n z (Letter p b) ≡ true
 unfolding accepts
-inside-place n p b h = lt-ltb p n h
+inside-place n z p b h i = and-yes (ltb p n) (isIn z b) (lt-ltb p n h) i
 
-pub limits-accepted : (n : ℕ) (l : Limits) → firstFault (limitsFaults l) ≡ 0 → accepts n (EditLimits l) ≡ true
+pub limits-accepted : (n : ℕ) (z : List ℕ) (l : Limits) → firstFault (limitsFaults l) ≡ 0 → accepts n z (EditLimits l) ≡ true
 unfolding accepts
-limits-accepted n l e = eq-eqb _ _ e
+limits-accepted n z l e = eq-eqb _ _ e
 
 -- A change that is popped can be taken back, or put again: its call would accept it.
 module _ (s : Sheet) (c : Change) where
-  kept-one : inBounds s ≡ true → (i : ℕ) → i < s .standing + s .taken → keptAt (s .kept) i ≡ c → acceptsChange (s .n) c ≡ true
-  kept-one w i h e = ap (acceptsChange (s .n)) (sym e) ∙ below-at (λ j. acceptsChange (s .n) (keptAt (s .kept) j)) (s .standing + s .taken) i (bounds s w .kept) h
+  kept-one : inBounds s ≡ true → (i : ℕ) → i < s .standing + s .taken → keptAt (s .kept) i ≡ c → acceptsChange (s .n) (s .alphabet) c ≡ true
+  kept-one w i h e = ap (acceptsChange (s .n) (s .alphabet)) (sym e) ∙ below-at (λ j. acceptsChange (s .n) (s .alphabet) (keptAt (s .kept) j)) (s .standing + s .taken) i (bounds s w .kept) h
 
-  pub newest-back : inBounds s ≡ true → popping (s .standing) (newestOf s) ≡ PoppedChange c → accepts (s .n) (backOf c) ≡ true
+  pub newest-back : inBounds s ≡ true → popping (s .standing) (newestOf s) ≡ PoppedChange c → accepts (s .n) (s .alphabet) (backOf c) ≡ true
   unfolding acceptsChange
   newest-back w p =
-      let (e, z) = popped-is (s .standing) (newestOf s) c p in and-right (accepts (s .n) (doneOf c)) _ (kept-one w (s .standing - 1) (omega arith) e)
+      let (e, z) = popped-is (s .standing) (newestOf s) c p in and-right (accepts (s .n) (s .alphabet) (doneOf c)) _ (kept-one w (s .standing - 1) (omega arith) e)
 
-  pub last-done : inBounds s ≡ true → popping (s .taken) (lastTaken s) ≡ PoppedChange c → accepts (s .n) (doneOf c) ≡ true
+  pub last-done : inBounds s ≡ true → popping (s .taken) (lastTaken s) ≡ PoppedChange c → accepts (s .n) (s .alphabet) (doneOf c) ≡ true
   unfolding acceptsChange
   last-done w p = let (e, z) = popped-is (s .taken) (lastTaken s) c p in and-left _ _ (kept-one w (s .standing) (omega arith) e)
 
@@ -178,27 +185,28 @@ module _ (s : Sheet) (c : Change) where
   again-is p = ap doneOf (sym (popped-is (s .taken) (lastTaken s) c p .0))
 
 -- An accepted opening.
-pub open-reply : (x : Text) (l : Limits) (k : ℕ) (letters map : List ℕ) (s : Sheet) → k ≡ firstFault (openingFaults x l) → k ≡ 0
-    → letters ≡ padded (x .letters) → map ≡ x .map → s ≡ unchangedOf letters (length (x .letters)) map l
+pub open-reply : (x : Text) (l : Limits) (k : ℕ) (letters map alphabet : List ℕ) (s : Sheet) → k ≡ firstFault (openingFaults x l) → k ≡ 0
+    → letters ≡ padded (x .letters) → map ≡ x .map → alphabet ≡ x .alphabet → s ≡ unchangedOf letters (length (x .letters)) map l alphabet
     → CallReply (openingFaults x l) (openCall x l) (record { sheet = s; said = Opened (length (x .letters)) })
 unfolding opened
-open-reply x l k letters map s e z p q u =
+open-reply x l k letters map alphabet s e z p q y u =
     call-accepted (openingFaults x l) blankSheet (record { sheet = opened x l; said = Opened (length (x .letters)) }) (sym z ∙ e) _
-    (ap (λ (t : Sheet). record { sheet = t; said = Opened (length (x .letters)) }) (u ∙ ap₂ (λ (a b : List ℕ). unchangedOf a (length (x .letters)) b l) p q)) refl
+    (ap (λ (t : Sheet). record { sheet = t; said = Opened (length (x .letters)) }) (u ∙ (λ i. unchangedOf (p i) (length (x .letters)) (q i) l (y i)))) refl
 
 -- What a letter call and a limits call may count on where no fault holds.
-pub letter-sound : (s : Sheet) (p b : ℕ) → 0 ≡ firstFault (letterFaults s p) → (s .n ≤ 1000) × (accepts (s .n) (Letter p b) ≡ true) × (s .standing < 64)
+pub letter-sound : (s : Sheet) (p b : ℕ) → 0 ≡ firstFault (letterFaults s p b) → (s .n ≤ 1000) × (accepts (s .n) (s .alphabet) (Letter p b) ≡ true) × (s .standing < 64)
 unfolding letterFaults
 letter-sound s p b e =
-    let a = passed 24 (not (inBounds s)) ((6, leb (s .n) p) ∷ (7, leb 64 (s .standing)) ∷ []) (omega arith) (sym e) in
-    let c = passed 6 (leb (s .n) p) ((7, leb 64 (s .standing)) ∷ []) (omega arith) (a .1) in
-    let d = passed 7 (leb 64 (s .standing)) [] (omega arith) (c .1) in
-    (bounds s (not-off _ (a .0)) .letters, inside-place (s .n) p b (leb-false _ _ (c .0)), leb-false _ _ (d .0))
+    let a = passed 24 (not (inBounds s)) ((6, leb (s .n) p) ∷ (19, not (isIn (s .alphabet) b)) ∷ (7, leb 64 (s .standing)) ∷ []) (omega arith) (sym e) in
+    let c = passed 6 (leb (s .n) p) ((19, not (isIn (s .alphabet) b)) ∷ (7, leb 64 (s .standing)) ∷ []) (omega arith) (a .1) in
+    let i = passed 19 (not (isIn (s .alphabet) b)) ((7, leb 64 (s .standing)) ∷ []) (omega arith) (c .1) in
+    let d = passed 7 (leb 64 (s .standing)) [] (omega arith) (i .1) in
+    (bounds s (not-off _ (a .0)) .letters, inside-place (s .n) (s .alphabet) p b (leb-false _ _ (c .0)) (not-off _ (i .0)), leb-false _ _ (d .0))
 
-pub limits-sound : (s : Sheet) (l : Limits) → 0 ≡ firstFault (limitsCallFaults s l) → (s .n ≤ 1000) × (accepts (s .n) (EditLimits l) ≡ true) × (s .standing < 64)
+pub limits-sound : (s : Sheet) (l : Limits) → 0 ≡ firstFault (limitsCallFaults s l) → (s .n ≤ 1000) × (accepts (s .n) (s .alphabet) (EditLimits l) ≡ true) × (s .standing < 64)
 unfolding limitsCallFaults
 limits-sound s l e =
     let a = passed 24 (not (inBounds s)) (limitsFaults l ++ (7, leb 64 (s .standing)) ∷ []) (omega arith) (sym e) in
     let c = fault-none (limitsFaults l) ((7, leb 64 (s .standing)) ∷ []) (limits-numbered l) (a .1) in
     let d = passed 7 (leb 64 (s .standing)) [] (omega arith) (c .1) in
-    (bounds s (not-off _ (a .0)) .letters, limits-accepted (s .n) l (c .0), leb-false _ _ (d .0))
+    (bounds s (not-off _ (a .0)) .letters, limits-accepted (s .n) (s .alphabet) l (c .0), leb-false _ _ (d .0))

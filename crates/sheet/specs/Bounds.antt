@@ -6,18 +6,17 @@ use lib.Dec.{eqb, leb}
 use lib.ListN.{getD, take}
 use Rattle.terms.specs.Sizes.{mostLetters, mostChanges}
 use Rattle.terms.specs.Refusals.{firstFault}
-use Rattle.terms.specs.Maps.{everyBelow, mapFaults}
-use Rattle.terms.specs.Limits.{limitsFaults}
-use Rattle.terms.specs.Texts.{Text, text}
+use Rattle.terms.specs.Maps.{everyBelow}
+use Rattle.terms.specs.Texts.{Text, text, openingFaults}
 use Rattle.changes.specs.Changes.{acceptsChange}
 use Rattle.changes.specs.declared.Change.{Change}
 use Rattle.changes.specs.declared.Change.the-variants.{Letter}
 use Rattle.sheet.specs.declared.Kept.{Kept}
 use Rattle.sheet.specs.declared.Sheet.{Sheet}
 
--- The sheet's letters and map.
+-- The sheet's letters, map and alphabet.
 abbrev pub textOf : Sheet → Text
-textOf s = text (take (s .n) (s .letters)) (s .map)
+textOf s = text (take (s .n) (s .letters)) (s .map) (s .alphabet)
 
 -- What stands past the end of the kept changes: nothing reads it.
 abbrev pub noChange : Kept
@@ -27,10 +26,9 @@ noChange = record { what = Letter 0 0 0 }
 abbrev pub keptAt : List Kept → ℕ → Change
 keptAt ks i = getD ks i noChange .what
 
--- Letters, map and limits that an opening would not refuse, at most 64 changes in both lists together, each one that its call would accept.
+-- Letters, map, alphabet and limits that an opening would not refuse, at most 64 changes in both lists together, each one that its call would accept.
 unfoldable pub inBounds : Sheet → Bool
 inBounds s =
     leb (s .n) mostLetters
-    && (eqb (firstFault (mapFaults (s .map))) 0
-    && (eqb (firstFault (limitsFaults (s .limits))) 0
-    && (leb (s .standing + s .taken) mostChanges && everyBelow (s .standing + s .taken) (λ i. acceptsChange (s .n) (keptAt (s .kept) i)))))
+    && (eqb (firstFault (openingFaults (textOf s) (s .limits))) 0
+    && (leb (s .standing + s .taken) mostChanges && everyBelow (s .standing + s .taken) (λ i. acceptsChange (s .n) (s .alphabet) (keptAt (s .kept) i))))

@@ -8,8 +8,9 @@ use lib.ListN.{getD, set, length, replicate}
 use Rattle.terms.specs.Sizes.{mostChanges}
 use Rattle.terms.specs.Refusals.{firstFault}
 use Rattle.terms.specs.Maps.{plainMap}
+use Rattle.terms.specs.Alphabets.{isIn}
 use Rattle.terms.specs.Limits.{limitsFaults}
-use Rattle.terms.specs.Texts.{Text, text, openingFaults}
+use Rattle.terms.specs.Texts.{Text, textAll, openingFaults}
 use Rattle.terms.specs.declared.limits.Limits.{Limits}
 use Rattle.changes.specs.Changes.{doneOf, backOf}
 use Rattle.changes.specs.declared.Change.{Change}
@@ -68,7 +69,7 @@ saidBy (EditLimits l) s k = SaidLimits l k
 abbrev pub editing : Sheet → Edit → List Kept → ℕ → ℕ → Reply
 editing s e ks st tk =
     record {
-      sheet = record { letters = lettersBy e (s .letters); n = s .n; map = s .map; limits = limitsBy e (s .limits); kept = ks; standing = st; taken = tk };
+      sheet = record { letters = lettersBy e (s .letters); n = s .n; map = s .map; alphabet = s .alphabet; limits = limitsBy e (s .limits); kept = ks; standing = st; taken = tk };
       said = saidBy e s st;
     }
 
@@ -85,12 +86,12 @@ replacing s (EditLimits l) = ChangedLimits (s .limits) l
 unfoldable pub changed : Sheet → Edit → Reply
 changed s e = editing s e (set (s .kept) (s .standing) (record { what = replacing s e })) (s .standing + 1) 0
 
--- Every call on a sheet: 24 first. Letter: 6, 7.
-unfoldable pub letterFaults : Sheet → ℕ → List (ℕ × Bool)
-letterFaults s p = (24, not (inBounds s)) ∷ (6, leb (s .n) p) ∷ (7, leb mostChanges (s .standing)) ∷ []
+-- Every call on a sheet: 24 first. Letter: 6, 19, 7.
+unfoldable pub letterFaults : Sheet → ℕ → ℕ → List (ℕ × Bool)
+letterFaults s p b = (24, not (inBounds s)) ∷ (6, leb (s .n) p) ∷ (19, not (isIn (s .alphabet) b)) ∷ (7, leb mostChanges (s .standing)) ∷ []
 
 abbrev pub letterCall : Sheet → ℕ → ℕ → Reply
-letterCall s p b = answered (letterFaults s p) s (changed s (EditLetter p b))
+letterCall s p b = answered (letterFaults s p b) s (changed s (EditLetter p b))
 
 -- Limits: 4, 5, 7.
 unfoldable pub limitsCallFaults : Sheet → Limits → List (ℕ × Bool)
@@ -127,16 +128,17 @@ opened x l =
       letters = padded (x .letters);
       n = length (x .letters);
       map = x .map;
+      alphabet = x .alphabet;
       limits = l;
       kept = replicate mostChanges noChange;
       standing = 0;
       taken = 0;
     }
 
--- The blank sheet: no letters, plain map, kind 1, m 1, g 0, d 0, no changes.
+-- The blank sheet: no letters, plain map, all 256 bytes, kind 1, m 1, g 0, d 0, no changes.
 unfoldable pub blankSheet : Sheet
-blankSheet = opened (text [] plainMap) (record { kind = 1; m = 1; g = 0; d = 0 })
+blankSheet = opened (textAll [] plainMap) (record { kind = 1; m = 1; g = 0; d = 0 })
 
--- Opening: 1, 2, 3, 4, 5. A refused opening gives the blank sheet.
+-- Opening: 1, 2, 3, 18, 19, 4, 5. A refused opening gives the blank sheet.
 abbrev pub openCall : Text → Limits → Reply
 openCall x l = answered (openingFaults x l) blankSheet (record { sheet = opened x l; said = Opened (length (x .letters)) })

@@ -14,11 +14,11 @@ use Rattle.sheet.specs.declared.Sheet.{Sheet}
 
 -- The sheet with the letter b written at place p.
 abbrev pub withLetter : Sheet → ℕ → ℕ → Sheet
-withLetter s p b = record { letters = set (s .letters) p b; n = s .n; map = s .map; limits = s .limits; kept = s .kept; standing = s .standing; taken = s .taken }
+withLetter s p b = record { letters = set (s .letters) p b; n = s .n; map = s .map; alphabet = s .alphabet; limits = s .limits; kept = s .kept; standing = s .standing; taken = s .taken }
 
 -- A sheet with no changes, over letters in their places.
-abbrev pub unchangedOf : List ℕ → ℕ → List ℕ → Limits → Sheet
-unchangedOf x n f l = record { letters = x; n = n; map = f; limits = l; kept = replicate mostChanges noChange; standing = 0; taken = 0 }
+abbrev pub unchangedOf : List ℕ → ℕ → List ℕ → Limits → List ℕ → Sheet
+unchangedOf x n f l z = record { letters = x; n = n; map = f; alphabet = z; limits = l; kept = replicate mostChanges noChange; standing = 0; taken = 0 }
 
 -- Popping one of so many changes answers the change, or Nothing where there is none.
 abbrev pub popping : ℕ → Change → Popped

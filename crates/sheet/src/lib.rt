@@ -1,13 +1,15 @@
-// The sheet of a call: one string, its map and limits, and the changes made to it.
+// The sheet of a call: one string, its map, alphabet and limits, and the changes made to it.
+mod bounds;
+
 use changes::Change;
 use changes::Edit;
 use places::letters_of;
 use places::map_of;
 use places::tile_first;
 use questions::Answer;
+use terms::alphabets;
 use terms::limits::Limits;
 use terms::maps;
-use terms::texts;
 ghost use mathlib.Core.Path.{_≡_};
 ghost use mathlib.Core.Bool.{true};
 ghost use mathlib.Core.List.{[], _∷_};
@@ -15,10 +17,8 @@ ghost use Prim.Native.Nat.{_+_, _≤_, _<_};
 ghost use lib.Dec.{eqb, leb};
 ghost use Rattle.terms.specs.Sizes.{mostChanges};
 ghost use Rattle.terms.specs.Refusals.{firstFault};
-ghost use Rattle.terms.specs.Maps.{everyBelow};
 ghost use Rattle.terms.specs.Texts.{text, openingFaults};
-ghost use Rattle.changes.specs.Changes.{accepts, acceptsChange};
-ghost use Rattle.sheet.specs.Bounds.{keptAt, inBounds};
+ghost use Rattle.changes.specs.Changes.{accepts};
 ghost use Rattle.sheet.specs.Calls.{refusing, CallReply, applied, replacing, changed, newestOf, lastTaken, letterFaults, limitsCallFaults, takeBackFaults, putAgainFaults, letterCall, limitsCall, takeBackCall, putAgainCall, blankSheet, openCall};
 ghost use Rattle.sheet.specs.Question.{SheetReply};
 ghost use Rattle.sheet.specs.Work.{withLetter, unchangedOf, popping, poppedNumber};
@@ -59,6 +59,7 @@ pub struct Sheet {
     pub letters: [u8; Sheet::LETTERS],
     pub n: usize,
     pub map: [u8; 256],
+    pub alphabet: [u8; 256],
     pub limits: Limits,
     pub kept: [Kept; Sheet::CHANGES],
     pub standing: usize,
@@ -75,50 +76,6 @@ impl Sheet {
     pub const LETTERS: usize = terms::LETTERS;
 
     pub const CHANGES: usize = terms::CHANGES;
-
-    // Whether each of the first `many` kept changes is one that its call would accept.
-    fn kept_accepted(self, many: usize) -> bool
-        requires { ⌜ many ≤ 64 ⌝ }
-        ensures { λ r. ⌜ r ≡ everyBelow many (λ i. acceptsChange (self .n) (keptAt (self .kept) i)) ⌝ }
-    {
-        let n = self.n;
-        let mut i = 0;
-        while i < many {
-            let k = self.kept[i];
-            let c = k.what;
-            if !c.accepted(n) {
-                return false;
-            }
-            i += 1;
-        }
-        true
-    }
-
-    // Whether the sheet keeps its bounds: what refusal 24 denies.
-    pub fn in_bounds(self) -> bool
-        ensures { λ r. ⌜ r ≡ inBounds self ⌝ }
-    {
-        if Sheet::LETTERS < self.n {
-            return false;
-        }
-        let map = self.map;
-        if maps::refusal(&map) != 0 {
-            return false;
-        }
-        let limits = self.limits;
-        if limits.refusal() != 0 {
-            return false;
-        }
-        let standing = self.standing;
-        let taken = self.taken;
-        if Sheet::CHANGES < standing {
-            return false;
-        }
-        if Sheet::CHANGES - standing < taken {
-            return false;
-        }
-        self.kept_accepted(standing + taken)
-    }
 
     // The sheet as it stands, with a refusal.
     fn refused(self, number: usize) -> Reply
@@ -158,8 +115,14 @@ impl Sheet {
     }
 
     // A sheet with no changes, over letters in their places.
-    fn unchanged(letters: [u8; Sheet::LETTERS], n: usize, map: [u8; 256], limits: Limits) -> Sheet
-        ensures { λ r. ⌜ r ≡ unchangedOf letters n map limits ⌝ }
+    fn unchanged(
+        letters: [u8; Sheet::LETTERS],
+        n: usize,
+        map: [u8; 256],
+        limits: Limits,
+        alphabet: [u8; 256],
+    ) -> Sheet
+        ensures { λ r. ⌜ r ≡ unchangedOf letters n map limits alphabet ⌝ }
     {
         let none = Kept {
             what: Change::Letter {
@@ -172,6 +135,7 @@ impl Sheet {
             letters,
             n,
             map,
+            alphabet,
             limits,
             kept: [none; Sheet::CHANGES],
             standing: 0,
@@ -179,7 +143,7 @@ impl Sheet {
         }
     }
 
-    // No letters, the plain map, kind 1, m 1, g 0, d 0, no changes: what a refused opening gives.
+    // No letters, the plain map, all 256 bytes, kind 1, m 1, g 0, d 0, no changes: what a refused opening gives.
     pub fn blank() -> Sheet
         ensures { λ r. ⌜ r ≡ blankSheet ⌝ }
     {
@@ -189,22 +153,29 @@ impl Sheet {
             g: 0,
             d: 0,
         };
-        Sheet::unchanged([0u8; Sheet::LETTERS], 0, maps::plain(), limits)
+        Sheet::unchanged(
+            [0u8; Sheet::LETTERS],
+            0,
+            maps::plain(),
+            limits,
+            alphabets::all(),
+        )
     }
 
-    // Opens a sheet: copies string, map and limits.
-    pub fn open(string: &[u8], map: &[u8], limits: Limits) -> Reply
-        ensures { λ r. ⌜ CallReply (openingFaults (text (now (string .entry)) (now (map .entry))) limits) (openCall (text (now (string .entry)) (now (map .entry))) limits) r ⌝ }
+    // Opens a sheet: copies string, map, limits and alphabet.
+    pub fn open(string: &[u8], map: &[u8], limits: Limits, alphabet: &[u8]) -> Reply
+        ensures { λ r. ⌜ CallReply (openingFaults (text (now (string .entry)) (now (map .entry)) (now (alphabet .entry))) limits) (openCall (text (now (string .entry)) (now (map .entry)) (now (alphabet .entry))) limits) r ⌝ }
     {
-        let number = texts::opening_refusal(string, map, limits);
+        let number = texts::opening_refusal(string, map, limits, alphabet);
         if number != 0 {
             return Sheet::blank().refused(number);
         }
         let letters = letters_of(string);
         let f = map_of(map);
+        let z = map_of(alphabet);
         let n = string.len();
         Reply {
-            sheet: Sheet::unchanged(letters, n, f, limits),
+            sheet: Sheet::unchanged(letters, n, f, limits, z),
             said: Said::Opened { n },
         }
     }
@@ -221,7 +192,7 @@ impl Sheet {
 
     // Makes an edit, sets the counts, and says the edit back.
     fn apply(self, e: Edit, standing: usize, taken: usize) -> Reply
-        requires { ⌜ (self .n ≤ 1000) × (accepts (self .n) e ≡ true) ⌝ }
+        requires { ⌜ (self .n ≤ 1000) × (accepts (self .n) (self .alphabet) e ≡ true) ⌝ }
         ensures { λ r. ⌜ r ≡ applied self e standing taken ⌝ }
     {
         let mut next = self;
@@ -255,7 +226,7 @@ impl Sheet {
 
     // The change that an edit makes here, with what it replaces.
     fn replaced(self, e: Edit) -> Change
-        requires { ⌜ (self .n ≤ 1000) × (accepts (self .n) e ≡ true) ⌝ }
+        requires { ⌜ (self .n ≤ 1000) × (accepts (self .n) (self .alphabet) e ≡ true) ⌝ }
         ensures { λ r. ⌜ r ≡ replacing self e ⌝ }
     {
         match e {
@@ -273,7 +244,7 @@ impl Sheet {
 
     // Makes an edit, keeps it as the newest change, and empties the list of those taken back.
     fn change(self, e: Edit) -> Reply
-        requires { ⌜ (self .n ≤ 1000) × (accepts (self .n) e ≡ true) × (self .standing < 64) ⌝ }
+        requires { ⌜ (self .n ≤ 1000) × (accepts (self .n) (self .alphabet) e ≡ true) × (self .standing < 64) ⌝ }
         ensures { λ r. ⌜ r ≡ changed self e ⌝ }
     {
         let at = self.standing;
@@ -295,14 +266,18 @@ impl Sheet {
     }
 
     // The first refusal of a letter call, 0 where there is none.
-    fn letter_refusal(self, place: usize) -> usize
-        ensures { λ r. ⌜ r ≡ firstFault (letterFaults self place) ⌝ }
+    fn letter_refusal(self, place: usize, byte: u8) -> usize
+        ensures { λ r. ⌜ r ≡ firstFault (letterFaults self place byte) ⌝ }
     {
         if !self.in_bounds() {
             return 24;
         }
         if self.n <= place {
             return 6;
+        }
+        let alphabet = self.alphabet;
+        if !alphabets::is_in(&alphabet, byte) {
+            return 19;
         }
         if self.full() {
             return 7;
@@ -312,9 +287,9 @@ impl Sheet {
 
     // Puts a letter in its place.
     pub fn put_letter(self, place: usize, byte: u8) -> Reply
-        ensures { λ r. ⌜ CallReply (letterFaults self place) (letterCall self place byte) r ⌝ }
+        ensures { λ r. ⌜ CallReply (letterFaults self place byte) (letterCall self place byte) r ⌝ }
     {
-        let number = self.letter_refusal(place);
+        let number = self.letter_refusal(place, byte);
         if number != 0 {
             return self.refused(number);
         }
@@ -375,7 +350,7 @@ impl Sheet {
         self.apply(c.done(), self.standing + 1, self.taken - 1)
     }
 
-    // The tiling question on the sheet's own letters, map and limits; the sheet stays.
+    // The tiling question on the sheet's own letters, map, alphabet and limits; the sheet stays.
     pub fn question(self, table: &mut [u16], room: &mut [u8]) -> Answer
         ensures { λ r. ⌜ SheetReply self (now (table .entry)) (now (table .exit)) (now (room .entry)) (now (room .exit)) r ⌝ }
     {
@@ -390,7 +365,8 @@ impl Sheet {
         let n = self.n;
         let letters = self.letters;
         let map = self.map;
+        let alphabet = self.alphabet;
         let limits = self.limits;
-        tile_first(letters, n, map, limits, table, room)
+        tile_first(letters, n, map, limits, table, room, alphabet)
     }
 }

@@ -1,14 +1,18 @@
 -- Exact palindromes are those with no error; and what a centre's maximal length says of a span. Assumes nothing.
 use mathlib.Core.Path.{_≡_, refl, sym, ap, ap₂, _∙_, subst₂}
-use mathlib.Core.Bool.{Bool, true, false, not}
+use mathlib.Core.Bool.{Bool, true, false, not, _&&_}
 use mathlib.Core.Logic.{_⊎_, ⊎-elim}
 use mathlib.Core.List.{List}
-use Prim.Native.Nat.{ℕ, zero, suc, _+_, _-_, _≤_, _<_}
+use Prim.Native.Nat.{ℕ, zero, suc, _+_, _-_, _/_, _%_, _≤_, _<_}
 use native.Mathlib.Omega.{arith}
 use borrow.Author.Tests.{eq-eqb, eqb-true}
 use lib.Dec.{eqb}
 use Rattle.terms.specs.Maps.{partner}
+use Rattle.terms.specs.Alphabets.{isIn, ownPartner}
 use Rattle.terms.specs.Texts.{Text, size}
+use Rattle.terms.specs.Passed.{SoundText}
+use Rattle.terms.proofs.Below.{and-yes, some-yes}
+use Rattle.terms.proofs.Passed.{sound-bytes}
 use Rattle.spans.specs.Palindromes.{letter, differs, one, errorCount, ExactPalindrome, DPalindrome, centre, Maximal, MaximalLength}
 use Rattle.spans.proofs.Counting.{from, from-mono, errors-none, errors-one, errors-two}
 use Rattle.terms.proofs.Order.{le-or-lt}
@@ -71,10 +75,21 @@ errors-same s f b y a (suc (suc L)) e (suc k) l =
     (errors-same s f b y (suc a) L (omega arith) k h))
     (le-or-lt L k)
 
-pub exact-pal : (x : Text) (a L : ℕ) → ExactPalindrome (x .letters) (x .map) a L → DPalindrome x 0 a L
-exact-pal x a L e =
+-- The middle letter of an odd exact palindrome is its own partner: the alphabet bars no exact palindrome of its letters.
+pub middle-own : (x : Text) → SoundText x → (a L : ℕ) → ExactPalindrome (x .letters) (x .map) a L → L % 2 ≡ 1 → ownPartner (x .map) (x .alphabet) ≡ true
+unfolding ownPartner
+middle-own x sound a L e o =
+    let b : ℕ = letter (x .letters) (a + L / 2) in
+    let s : letter (x .letters) (a + L / 2) ≡ partner (x .map) (letter (x .letters) (a + (L - 1 - L / 2))) = e .same (L / 2) (omega arith) in
+    let i : a + L ≤ size x = e .inside in
+    let m : a + (L - 1 - L / 2) ≡ a + L / 2 = omega arith in
+    let q : partner (x .map) b ≡ b = sym (s ∙ ap (λ (k : ℕ). partner (x .map) (letter (x .letters) k)) m) in
+    some-yes (λ (k : ℕ). isIn (x .alphabet) k && eqb (partner (x .map) k) k) 256 b (sound-bytes x sound (a + L / 2)) (and-yes _ _ (sound .spelt (a + L / 2) (omega arith)) (eq-eqb _ _ q))
+
+pub exact-pal : (x : Text) → SoundText x → (a L : ℕ) → ExactPalindrome (x .letters) (x .map) a L → DPalindrome x 0 a L
+exact-pal x sound a L e =
     let z : errorCount (x .letters) (x .map) a L ≡ 0 = same-errors (x .letters) (x .map) a L (e .same) in
-    record { some = e .some; inside = e .inside; few = omega arith }
+    record { some = e .some; inside = e .inside; few = omega arith; odd = middle-own x sound a L e }
 
 pub pal-exact : (x : Text) → Back (x .map) → Bytes (x .letters) → (a L : ℕ) → DPalindrome x 0 a L → ExactPalindrome (x .letters) (x .map) a L
 pal-exact x b y a L p =
@@ -101,7 +116,7 @@ module _ (x : Text) (d c r a L : ℕ) (m : MaximalLength x d c r) (some : 1 ≤ 
       let p : from (x .letters) (x .map) c (b + (a - b)) ≡ errorCount (x .letters) (x .map) a L = ap₂ (errorCount (x .letters) (x .map)) (omega arith) (omega arith) in
       let q : from (x .letters) (x .map) c b ≡ errorCount (x .letters) (x .map) b r = ap (errorCount (x .letters) (x .map) b) (omega arith) in
       let f : errorCount (x .letters) (x .map) b r ≤ d = w .1 .few in
-      record { some = some; inside = i; few = omega arith }
+      record { some = some; inside = i; few = omega arith; odd = λ h. w .1 .odd (omega arith) }
 
   pub is-maximal : r ≡ L → Maximal x d a L
   unfolding Longest

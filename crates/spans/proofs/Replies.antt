@@ -9,7 +9,8 @@ use lib.Seq.{ext-getD}
 use Rattle.terms.proofs.Order.{le-or-lt}
 use Rattle.terms.specs.Refusals.{firstFault, OneOf}
 use Rattle.terms.specs.Maps.{mapFaults}
-use Rattle.terms.specs.Texts.{Text, size, textFaults}
+use Rattle.terms.specs.Alphabets.{alphabetFaults}
+use Rattle.terms.specs.Texts.{Text, size, stringFaults, textFaults}
 use Rattle.terms.proofs.Refusals.{fault-listed}
 use Rattle.spans.specs.Palindromes.{centres}
 use Rattle.spans.specs.Centres.{Lengths, centresFaults, CentresReply, CentresLaws}
@@ -23,8 +24,8 @@ lengths-unique x d b a a′ p q =
     ⊎-elim (λ (w : centres (size x) ≤ i). p .stay i w ∙ sym (q .stay i w)) (λ (w : i < centres (size x)). longest-unique (p .filled i w) (q .filled i w))
     (le-or-lt (centres (size x)) i))
 
-centres-listed : (x : Text) (d lent : ℕ) → OneOf (firstFault (centresFaults x d lent)) (0 ∷ 1 ∷ 2 ∷ 3 ∷ 5 ∷ 11 ∷ [])
-unfolding centresFaults textFaults mapFaults
+centres-listed : (x : Text) (d lent : ℕ) → OneOf (firstFault (centresFaults x d lent)) (0 ∷ 1 ∷ 2 ∷ 3 ∷ 18 ∷ 19 ∷ 5 ∷ 11 ∷ [])
+unfolding centresFaults textFaults stringFaults mapFaults alphabetFaults
 centres-listed x d lent = fault-listed (centresFaults x d lent)
 
 centres-unique : (x : Text) (d : ℕ) (b a a′ : List ℕ) (r r′ : CentreCount) → CentresReply x d b a r → CentresReply x d b a′ r′ → (a ≡ a′) × (r ≡ r′)

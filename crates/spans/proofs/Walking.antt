@@ -1,17 +1,25 @@
 -- Where a walk outward from a centre may stop, and what the maximal length then is. Assumes nothing.
-use mathlib.Core.Path.{_≡_, sym, ap, _∙_, subst}
+use mathlib.Core.Path.{_≡_, refl, sym, ap, _∙_, subst}
 use mathlib.Core.Logic.{_⊎_, inl, inr, ⊎-elim}
-use mathlib.Core.Bool.{Bool, true, false}
-use Prim.Native.Nat.{ℕ, suc, _+_, _-_, _/_, _≤_, _<_}
+use mathlib.Core.Bool.{Bool, true, false, not, _&&_}
+use mathlib.Core.List.{List}
+use Prim.Native.Nat.{ℕ, suc, _+_, _-_, _/_, _%_, _≤_, _<_}
 use native.Mathlib.Omega.{arith}
 use native.Mathlib.Nat.{le-antisymm}
+use borrow.Author.Tests.{eqb-true, eqb-false}
+use lib.Dec.{eqb}
+use lib.ListN.{length}
 use Rattle.terms.proofs.Order.{le-or-lt}
-use Rattle.terms.specs.Texts.{Text, size}
+use Rattle.terms.proofs.Refusals.{false-true}
+use Rattle.terms.specs.Alphabets.{ownPartner}
+use Rattle.terms.specs.Texts.{Text, text, size}
+use Rattle.terms.specs.Passed.{EverySound}
 use Rattle.spans.specs.Palindromes.{errorCount, one, differs, DPalindrome, centre, centres, MaximalLength}
+use Rattle.spans.specs.Work.{Own, Unbarred}
 use Rattle.spans.proofs.Counting.{from, from-mono, from-step, errors-none}
 
 module _ (x : Text) (d c a : ℕ) (mid : a + a ≤ c + 2) (inside : c + 1 ≤ a + size x) (few : from (x .letters) (x .map) c a ≤ d)
-    (stop : (i : ℕ) → suc i ≡ a → (size x ≤ c - i) ⊎ (d < from (x .letters) (x .map) c i)) where
+    (own : c % 2 ≡ 0 → ownPartner (x .map) (x .alphabet) ≡ true) (stop : (i : ℕ) → suc i ≡ a → (size x ≤ c - i) ⊎ (d < from (x .letters) (x .map) c i)) where
   none-past : (b M : ℕ) → b < a → DPalindrome x d b M → centre b M ≡ c → ⊥
   none-past b M l p e = go (a - 1) (omega arith)
     where
@@ -29,7 +37,7 @@ module _ (x : Text) (d c a : ℕ) (mid : a + a ≤ c + 2) (inside : c + 1 ≤ a 
       record {
         attained =
             ⊎-elim
-            (λ (w : a + a ≤ c). inr (a, (record { some = omega arith; inside = omega arith; few = few }), omega arith))
+            (λ (w : a + a ≤ c). inr (a, (record { some = omega arith; inside = omega arith; few = few; odd = λ h. own (omega arith) }), omega arith))
             (λ (w : c < a + a). inl (omega arith))
             (le-or-lt (a + a) c);
         longest = λ b M p e.
@@ -49,50 +57,71 @@ unfolding one
 one-le true = omega arith
 one-le false = omega arith
 
+-- A centre of odd lengths has none where no letter of the alphabet is its own partner.
+pub barred : (x : Text) (d c : ℕ) → c % 2 ≡ 0 → ownPartner (x .map) (x .alphabet) ≡ false → MaximalLength x d c 0
+barred x d c e n = record { attained = inl refl; longest = λ b M p h. absurd (false-true (sym (p .odd (odd-at b M (p .some) h)) ∙ n)) }
+  where
+    odd-at : (b M : ℕ) → 1 ≤ M → centre b M ≡ c → M % 2 ≡ 1
+    odd-at b M some h = omega arith
+
+-- What the walk of a centre answers: where it is barred, and where it is not.
+module _ (s f : List ℕ) (d c : ℕ) where
+  pub walked-barred : (own : Bool) → (not own && eqb (c % 2) 0) ≡ true → EverySound s f (Own own) (λ x. MaximalLength x d c 0)
+  walked-barred true h = absurd (false-true (sym h))
+  walked-barred false h = λ z k e. barred (text s f z) d c (eqb-true (c % 2) 0 h) (sym e)
+
+  pub walked-out : (own : Bool) → (not own && eqb (c % 2) 0) ≡ false → (r : ℕ) → EverySound s f (Unbarred c) (λ x. MaximalLength x d c r) → EverySound s f (Own own) (λ x. MaximalLength x d c r)
+  walked-out true h r u = λ z k e. u z k (λ b. sym e)
+  walked-out false h r u = λ z k e. u z k (λ b. absurd (eqb-false (c % 2) 0 h b))
+
+-- How far a walk outward reached: the maximal length, with every alphabet that does not bar the centre.
+abbrev pub Reaches : List ℕ → List ℕ → ℕ → ℕ → ℕ → Type 0
+Reaches s f d c r = (z : List ℕ) → Unbarred c (text s f z) → MaximalLength (text s f z) d c r
+
 -- A walk outward: the span from a is inside the string, or has no letter yet, and has e errors, at most d.
-pub record Walk (x : Text) (d c a e : ℕ) : Type 0 where
+pub record Walk (s f : List ℕ) (d c a e : ℕ) : Type 0 where
   pub mid : a + a ≤ c + 2
-  pub inside : c + 1 ≤ a + size x
-  pub count : from (x .letters) (x .map) c a ≡ e
+  pub inside : c + 1 ≤ a + length s
+  pub count : from s f c a ≡ e
   pub few : e ≤ d
 
-pub walk-start : (x : Text) (d c : ℕ) → c < centres (size x) → Walk x d c (c / 2 + 1) 0
-walk-start x d c h =
-    let z : from (x .letters) (x .map) c (c / 2 + 1) ≡ 0 = ap (errorCount (x .letters) (x .map) (c / 2 + 1)) (omega arith) ∙ errors-none (x .letters) (x .map) (c / 2 + 1) in
+pub walk-start : (s f : List ℕ) (d c : ℕ) → c < centres (length s) → Walk s f d c (c / 2 + 1) 0
+walk-start s f d c h =
+    let z : from s f c (c / 2 + 1) ≡ 0 = ap (errorCount s f (c / 2 + 1)) (omega arith) ∙ errors-none s f (c / 2 + 1) in
     record { mid = omega arith; inside = omega arith; count = z; few = omega arith }
 
-module _ (x : Text) (d c a e : ℕ) (w : Walk x d c a e) where
+module _ (s f : List ℕ) (d c a e : ℕ) (w : Walk s f d c a e) where
   -- the pair past a, where there is one
-  next : 0 < a → from (x .letters) (x .map) c (a - 1) ≡ one (differs (x .letters) (x .map) (a - 1) (c - (a - 1))) + e
+  next : 0 < a → from s f c (a - 1) ≡ one (differs s f (a - 1) (c - (a - 1))) + e
   next p =
       let m : a + a ≤ c + 2 = w .mid in
-      let s : from (x .letters) (x .map) c (a - 1) ≡ one (differs (x .letters) (x .map) (a - 1) (c - (a - 1))) + from (x .letters) (x .map) c (suc (a - 1)) = from-step (x .letters) (x .map) c (a - 1) (omega arith) in
-      let t : from (x .letters) (x .map) c (suc (a - 1)) ≡ e = ap (from (x .letters) (x .map) c) (omega arith) ∙ w .count in
+      let o : from s f c (a - 1) ≡ one (differs s f (a - 1) (c - (a - 1))) + from s f c (suc (a - 1)) = from-step s f c (a - 1) (omega arith) in
+      let t : from s f c (suc (a - 1)) ≡ e = ap (from s f c) (omega arith) ∙ w .count in
       omega arith
 
-  pub walk-step : (v : ℕ) → 0 < a → c - (a - 1) < size x → v ≡ one (differs (x .letters) (x .map) (a - 1) (c - (a - 1))) → e + v ≤ d → Walk x d c (a - 1) (e + v)
+  pub walk-step : (v : ℕ) → 0 < a → c - (a - 1) < length s → v ≡ one (differs s f (a - 1) (c - (a - 1))) → e + v ≤ d → Walk s f d c (a - 1) (e + v)
   walk-step v p i q l =
       let m : a + a ≤ c + 2 = w .mid in
-      let n : from (x .letters) (x .map) c (a - 1) ≡ one (differs (x .letters) (x .map) (a - 1) (c - (a - 1))) + e = next p in
+      let n : from s f c (a - 1) ≡ one (differs s f (a - 1) (c - (a - 1))) + e = next p in
       record { mid = omega arith; inside = omega arith; count = omega arith; few = l }
 
-  stopped : ((i : ℕ) → suc i ≡ a → (size x ≤ c - i) ⊎ (d < from (x .letters) (x .map) c i)) → (r : ℕ) → r ≡ c + 1 - (a + a) → MaximalLength x d c r
+  stopped : ((i : ℕ) → suc i ≡ a → (length s ≤ c - i) ⊎ (d < from s f c i)) → (r : ℕ) → r ≡ c + 1 - (a + a) → Reaches s f d c r
   stopped st r q =
-      let fw : from (x .letters) (x .map) c a ≤ d = rw w.count (w .few) in
-      subst (λ (k : ℕ). MaximalLength x d c k) (sym q) (longest-of x d c a (w .mid) (w .inside) fw st)
+      let fw : from s f c a ≤ d = rw w.count (w .few) in
+      λ z o. subst (λ (k : ℕ). MaximalLength (text s f z) d c k) (sym q) (longest-of (text s f z) d c a (w .mid) (w .inside) fw o st)
 
   -- the string's start, its end, and too many errors
-  pub stop-start : a ≤ 0 → (r : ℕ) → r ≡ c + 1 - (a + a) → MaximalLength x d c r
+  pub stop-start : a ≤ 0 → (r : ℕ) → r ≡ c + 1 - (a + a) → Reaches s f d c r
   stop-start z = stopped (λ i h. absurd (omega arith))
 
-  pub stop-end : 0 < a → size x ≤ c - (a - 1) → (r : ℕ) → r ≡ c + 1 - (a + a) → MaximalLength x d c r
+  pub stop-end : 0 < a → length s ≤ c - (a - 1) → (r : ℕ) → r ≡ c + 1 - (a + a) → Reaches s f d c r
   stop-end p l = stopped (λ i h. inl (let g : i ≡ a - 1 = omega arith in rw g l))
 
-  pub stop-over : (v : ℕ) → 0 < a → v ≡ one (differs (x .letters) (x .map) (a - 1) (c - (a - 1))) → d < e + v → (r : ℕ) → r ≡ c + 1 - (a + a) → MaximalLength x d c r
+  pub stop-over : (v : ℕ) → 0 < a → v ≡ one (differs s f (a - 1) (c - (a - 1))) → d < e + v → (r : ℕ) → r ≡ c + 1 - (a + a) → Reaches s f d c r
   stop-over v p q l =
       stopped
       (λ i h. inr
       (let g : i ≡ a - 1 = omega arith in
-      let n : from (x .letters) (x .map) c (a - 1) ≡ one (differs (x .letters) (x .map) (a - 1) (c - (a - 1))) + e = next p in
-      let k : d < from (x .letters) (x .map) c (a - 1) = omega arith in
-      subst (λ (j : ℕ). d < from (x .letters) (x .map) c j) (sym g) k))
+      let n : from s f c (a - 1) ≡ one (differs s f (a - 1) (c - (a - 1))) + e = next p in
+      let k : d < from s f c (a - 1) = omega arith in
+      subst (λ (j : ℕ). d < from s f c j) (sym g) k))

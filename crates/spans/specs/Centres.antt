@@ -21,7 +21,7 @@ pub record Lengths (x : Text) (d : ℕ) (before after : List ℕ) : Type 0 where
   pub filled : Holds x d after
   pub stay : (k : ℕ) → centres (size x) ≤ k → getD after k 0 ≡ getD before k 0
 
--- Refusals 1, 2, 3, of 5 only the part on d, then 11 where fewer entries are lent than centres.
+-- Refusals 1, 2, 3, 18, 19, of 5 only the part on d, then 11 where fewer entries are lent than centres.
 unfoldable pub centresFaults : Text → ℕ → ℕ → List (ℕ × Bool)
 centresFaults x d lent = textFaults x ++ (5, tooManyErrors d) ∷ (11, ltb lent (centres (size x))) ∷ []
 
@@ -33,7 +33,7 @@ pub record CentresReply (x : Text) (d : ℕ) (before after : List ℕ) (r : Cent
 
 -- For a reader: the number answered is always one of these, and two replies to one question are equal, slices included.
 pub record CentresLaws (x : Text) (d : ℕ) (before : List ℕ) : Type 0 where
-  pub listed : (after : List ℕ) (r : CentreCount) → CentresReply x d before after r → OneOf (r .number) (0 ∷ 1 ∷ 2 ∷ 3 ∷ 5 ∷ 11 ∷ [])
+  pub listed : (after : List ℕ) (r : CentreCount) → CentresReply x d before after r → OneOf (r .number) (0 ∷ 1 ∷ 2 ∷ 3 ∷ 18 ∷ 19 ∷ 5 ∷ 11 ∷ [])
   pub one :
       (after after′ : List ℕ) (r r′ : CentreCount)
       → CentresReply x d before after r → CentresReply x d before after′ r′ → (after ≡ after′) × (r ≡ r′)

@@ -8,6 +8,7 @@ use Prim.Native.Nat.{ℕ, zero, suc, _+_, _-_, _*_, _/_, _%_, _≤_, _<_}
 use lib.Dec.{eqb, ltb}
 use lib.ListN.{length, getD}
 use Rattle.terms.specs.Maps.{partner}
+use Rattle.terms.specs.Alphabets.{ownPartner}
 use Rattle.terms.specs.Texts.{Text, size}
 
 -- The letter at place i; places count from 0.
@@ -46,11 +47,12 @@ count p (suc n) = one (p n) + count p n
 unfoldable pub errorCount : List ℕ → List ℕ → ℕ → ℕ → ℕ
 errorCount s f a L = count (wrongPair s f a L) L + one (wrongMiddle s f a L)
 
--- A d-palindrome: the count is at most d.
+-- A d-palindrome: the count is at most d. Where the map has no own-partner letter within the alphabet, no odd span is one, at any d (02, L2).
 pub record DPalindrome (x : Text) (d a L : ℕ) : Type 0 where
   pub some : 1 ≤ L
   pub inside : a + L ≤ size x
   pub few : errorCount (x .letters) (x .map) a L ≤ d
+  pub odd : L % 2 ≡ 1 → ownPartner (x .map) (x .alphabet) ≡ true
 
 -- A span's centre: first place plus last place. A string of n letters has 2n - 1 centres, and none where n = 0.
 abbrev pub centre : ℕ → ℕ → ℕ

@@ -4,7 +4,7 @@ pub mod pairs;
 
 use crate::outward::walk;
 use terms::limits::ERRORS;
-use terms::texts;
+use texts::flags::own_partner;
 ghost use mathlib.Core.Path.{_≡_};
 ghost use Prim.Native.Nat.{_≤_};
 ghost use lib.ListN.{length};
@@ -23,25 +23,26 @@ fn centre_count(n: usize) -> usize
 }
 
 // The maximal lengths of all centres, for a string and a map that meet no refusal; later entries stay.
-pub fn fill_lengths(s: &[u8], map: &[u8], d: usize, out: &mut [u16])
-    requires { ⌜ SoundText (text (now s) (now map)) ⌝ }
+pub fn fill_lengths(s: &[u8], map: &[u8], d: usize, out: &mut [u16], alphabet: &[u8])
+    requires { ⌜ SoundText (text (now s) (now map) (now alphabet)) ⌝ }
     requires { ⌜ (d ≤ 15) × (centres (length (now s)) ≤ length (now out)) ⌝ }
-    ensures { λ _. ⌜ Lengths (text (now (s .entry)) (now (map .entry))) d (now (out .entry)) (now (out .exit)) ⌝ }
+    ensures { λ _. ⌜ Lengths (text (now (s .entry)) (now (map .entry)) (now (alphabet .entry))) d (now (out .entry)) (now (out .exit)) ⌝ }
 {
+    let own = own_partner(map, alphabet);
     let count = centre_count(s.len());
     let mut c = 0;
     while c < count {
-        let found = walk(s, map, d, c);
+        let found = walk(s, map, d, c, own);
         out[c] = found.length;
         c += 1;
     }
 }
 
 // The first refusal of the fill of the centres into `lent` entries, 0 where there is none.
-fn centres_refusal(s: &[u8], map: &[u8], d: usize, lent: usize) -> usize
-    ensures { λ r. ⌜ r ≡ firstFault (centresFaults (text (now (s .entry)) (now (map .entry))) d lent) ⌝ }
+fn centres_refusal(s: &[u8], map: &[u8], d: usize, lent: usize, alphabet: &[u8]) -> usize
+    ensures { λ r. ⌜ r ≡ firstFault (centresFaults (text (now (s .entry)) (now (map .entry)) (now (alphabet .entry))) d lent) ⌝ }
 {
-    let number = texts::refusal(s, map);
+    let number = texts::refusal(s, map, alphabet);
     if number != 0 {
         return number;
     }
@@ -61,14 +62,14 @@ pub struct CentreCount {
 }
 
 // Fills the slice with the maximal lengths of all centres; a refused slice stays.
-pub fn fill_centres(s: &[u8], map: &[u8], d: usize, out: &mut [u16]) -> CentreCount
-    ensures { λ r. ⌜ CentresReply (text (now (s .entry)) (now (map .entry))) d (now (out .entry)) (now (out .exit)) r ⌝ }
+pub fn fill_centres(s: &[u8], map: &[u8], d: usize, out: &mut [u16], alphabet: &[u8]) -> CentreCount
+    ensures { λ r. ⌜ CentresReply (text (now (s .entry)) (now (map .entry)) (now (alphabet .entry))) d (now (out .entry)) (now (out .exit)) r ⌝ }
 {
-    let number = centres_refusal(s, map, d, out.len());
+    let number = centres_refusal(s, map, d, out.len(), alphabet);
     if number != 0 {
         return CentreCount { number, count: 0 };
     }
-    fill_lengths(s, map, d, out);
+    fill_lengths(s, map, d, out, alphabet);
     CentreCount {
         number: 0,
         count: centre_count(s.len()),

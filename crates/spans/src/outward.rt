@@ -1,10 +1,13 @@
 // The walk of one centre, from the middle outward.
 use crate::pairs::differ;
 ghost use mathlib.Core.Path.{_≡_};
-ghost use Prim.Native.Nat.{_+_, _-_, _≤_, _<_};
+ghost use mathlib.Core.Bool.{not, _&&_};
+ghost use Prim.Native.Nat.{_+_, _-_, _%_, _≤_, _<_};
+ghost use lib.Dec.{eqb};
 ghost use lib.ListN.{length};
-ghost use Rattle.terms.specs.Texts.{text};
+ghost use Rattle.terms.specs.Passed.{EverySound};
 ghost use Rattle.spans.specs.Palindromes.{centres, MaximalLength};
+ghost use Rattle.spans.specs.Work.{Own, Unbarred};
 
 // How far a walk came: the length of the longest palindrome on it, 0 where there is none.
 pub struct Reach {
@@ -24,10 +27,10 @@ fn reached(c: usize, a: usize) -> Reach
     Reach { length: 0 }
 }
 
-// Outward from the middle of the centre c, until an end is met or the next pair would exceed d.
-pub fn walk(s: &[u8], map: &[u8], d: usize, c: usize) -> Reach
+// Outward from the middle of the centre c, until an end is met or the next pair would exceed d; for every alphabet that does not bar the centre.
+fn walk_out(s: &[u8], map: &[u8], d: usize, c: usize) -> Reach
     requires { ⌜ (length (now map) ≡ 256) × (length (now s) ≤ 1000) × (c < centres (length (now s))) × (d ≤ 15) ⌝ }
-    ensures { λ r. ⌜ MaximalLength (text (now (s .entry)) (now (map .entry))) d c (r .length) ⌝ }
+    ensures { λ r. ⌜ EverySound (now (s .entry)) (now (map .entry)) (Unbarred c) (λ x. MaximalLength x d c (r .length)) ⌝ }
 {
     let mut a = c / 2 + 1;
     let mut e = 0;
@@ -45,4 +48,25 @@ pub fn walk(s: &[u8], map: &[u8], d: usize, c: usize) -> Reach
         a = i;
     }
     reached(c, a)
+}
+
+// Whether the centre c is barred: its lengths are odd, and no letter of the alphabet is its own partner, which `own` denies.
+fn bars(c: usize, own: bool) -> bool
+    ensures { λ r. ⌜ r ≡ (not own && eqb (c % 2) 0) ⌝ }
+{
+    if own {
+        return false;
+    }
+    c % 2 == 0
+}
+
+// The maximal length of the centre c; `own` says whether the map has an own-partner letter within the alphabet.
+pub fn walk(s: &[u8], map: &[u8], d: usize, c: usize, own: bool) -> Reach
+    requires { ⌜ (length (now map) ≡ 256) × (length (now s) ≤ 1000) × (c < centres (length (now s))) × (d ≤ 15) ⌝ }
+    ensures { λ r. ⌜ EverySound (now (s .entry)) (now (map .entry)) (Own own) (λ x. MaximalLength x d c (r .length)) ⌝ }
+{
+    if bars(c, own) {
+        return Reach { length: 0 };
+    }
+    walk_out(s, map, d, c)
 }

@@ -1,23 +1,25 @@
 -- Where no refusal holds, the text and the limits are sound. Assumes nothing.
-use mathlib.Core.Path.{_≡_, refl, sym, ap}
+use mathlib.Core.Path.{_≡_, refl, sym, ap, _∙_}
 use mathlib.Core.Bool.{Bool, true, false, not, _&&_, _||_}
 use mathlib.Core.List.{List, [], _∷_}
 use mathlib.Core.Logic.{_⊎_, inl, inr, ⊎-elim}
-use Prim.Native.Nat.{ℕ, _<_}
+use Prim.Native.Nat.{ℕ, _≤_, _<_}
 use native.Mathlib.Omega.{arith}
-use borrow.Author.Tests.{ltb-false, eqb-true, eqb-false}
+use borrow.Author.Tests.{ltb-false, eqb-true, eqb-false, eq-eqb}
 use lib.Dec.{eqb, ltb}
-use lib.ListN.{length}
+use lib.ListN.{length, getD, List·getD-eq-default}
 use Rattle.terms.specs.Sizes.{mostLetters, mostGaps, mostErrors}
 use Rattle.terms.specs.Refusals.{firstFault}
 use Rattle.terms.specs.Maps.{mapFaults, ownInverse}
+use Rattle.terms.specs.Alphabets.{isIn, allBytes, closedUnder, spelt, alphabetFaults}
 use Rattle.terms.specs.Limits.{wrongKind, tooManyErrors, outOfRange, limitsFaults}
-use Rattle.terms.specs.Texts.{Text, size, textFaults, openingFaults}
-use Rattle.terms.specs.Passed.{SoundText, SoundLimits}
+use Rattle.terms.specs.Texts.{Text, text, size, stringFaults, textFaults, openingFaults}
+use Rattle.terms.specs.Passed.{SoundString, SoundText, SoundLimits}
 use Rattle.terms.specs.declared.limits.Limits.{Limits}
-use Rattle.terms.proofs.Below.{or-left, or-right}
-use Rattle.terms.proofs.Refusals.{fault-none, text-numbered}
-use Rattle.terms.proofs.Supplied.{comes-back}
+use Rattle.terms.proofs.Order.{le-or-lt}
+use Rattle.terms.proofs.Below.{and-left, or-left, or-right, below-at}
+use Rattle.terms.proofs.Refusals.{false-true, fault-none, string-numbered, text-numbered}
+use Rattle.terms.proofs.Supplied.{comes-back, all-long, all-in}
 
 -- a test that a list of refusals passed, and the rest of the list
 pub passed : (k : ℕ) (b : Bool) (ts : List (ℕ × Bool)) → 0 < k → firstFault ((k, b) ∷ ts) ≡ 0 → (b ≡ false) × (firstFault ts ≡ 0)
@@ -45,12 +47,50 @@ sound-map f e =
     let b = passed 3 (not (ownInverse f)) [] (omega arith) (a .1) in
     (eqb-true _ _ (not-off _ (a .0)), not-off _ (b .0))
 
+pub sound-string : (s f : List ℕ) → firstFault (stringFaults s f) ≡ 0 → SoundString s f
+unfolding stringFaults
+sound-string s f e =
+    let a = passed 1 (ltb mostLetters (length s)) (mapFaults f) (omega arith) e in
+    let b = sound-map f (a .1) in
+    record { short = ltb-false _ _ (a .0); wide = b .0; back = comes-back f (b .1) }
+
+pub sound-alphabet : (s f z : List ℕ) → firstFault (alphabetFaults s f z) ≡ 0 → (length z ≡ 256) × ((k : ℕ) → k < length s → isIn z (getD s k 0) ≡ true)
+unfolding alphabetFaults spelt
+sound-alphabet s f z e =
+    let a = passed 18 (not (eqb (length z) 256 && closedUnder f z)) ((19, not (spelt s z)) ∷ []) (omega arith) e in
+    let b = passed 19 (not (spelt s z)) [] (omega arith) (a .1) in
+    (eqb-true _ _ (and-left (eqb (length z) 256) (closedUnder f z) (not-off _ (a .0))), λ k h. below-at (λ i. isIn z (getD s i 0)) (length s) k (not-off _ (b .0)) h)
+
 pub sound-text : (x : Text) → firstFault (textFaults x) ≡ 0 → SoundText x
 unfolding textFaults
 sound-text x e =
-    let a = passed 1 (ltb mostLetters (size x)) (mapFaults (x .map)) (omega arith) e in
-    let b = sound-map (x .map) (a .1) in
-    record { short = ltb-false _ _ (a .0); wide = b .0; back = comes-back (x .map) (b .1) }
+    let h = fault-none (stringFaults (x .letters) (x .map)) (alphabetFaults (x .letters) (x .map) (x .alphabet)) (string-numbered (x .letters) (x .map)) e in
+    let a = sound-string (x .letters) (x .map) (h .0) in
+    let b = sound-alphabet (x .letters) (x .map) (x .alphabet) (h .1) in
+    record { short = a .short; wide = a .wide; back = a .back; flagged = b .0; spelt = b .1 }
+
+-- without its alphabet
+pub sound-letters : (x : Text) → SoundText x → SoundString (x .letters) (x .map)
+sound-letters x a = record { short = a .short; wide = a .wide; back = a .back }
+
+-- with all 256 bytes for its alphabet, a string of bytes is sound where string and map are
+pub sound-all : (s f : List ℕ) → SoundString s f → ((k : ℕ) → getD s k 0 < 256) → SoundText (text s f allBytes)
+sound-all s f a y =
+    record { short = a .short; wide = a .wide; back = a .back; flagged = all-long; spelt = λ k h. all-in (getD s k 0) (y k) }
+
+-- its letters are bytes, since no flag stands past the 256th
+pub sound-bytes : (x : Text) → SoundText x → (k : ℕ) → getD (x .letters) k 0 < 256
+sound-bytes x a k =
+    ⊎-elim
+    (λ (h : size x ≤ k). let e : getD (x .letters) k 0 ≡ 0 = List·getD-eq-default (x .letters) 0 h in omega arith)
+    (λ (h : k < size x). ⊎-elim
+    (λ (y : 256 ≤ getD (x .letters) k 0).
+    let w : length (x .alphabet) ≡ 256 = a .flagged in
+    let o : getD (x .alphabet) (getD (x .letters) k 0) 0 ≡ 0 = List·getD-eq-default (x .alphabet) 0 (omega arith) in
+    absurd (false-true (sym (a .spelt k h) ∙ ap not (eq-eqb _ 0 o))))
+    (λ (y : getD (x .letters) k 0 < 256). y)
+    (le-or-lt 256 (getD (x .letters) k 0)))
+    (le-or-lt (size x) k)
 
 pub sound-limits : (l : Limits) → firstFault (limitsFaults l) ≡ 0 → SoundLimits l
 unfolding limitsFaults wrongKind outOfRange tooManyErrors

@@ -1,5 +1,5 @@
 -- The first fault of a list is one number; lists one after the other; a list of tests. Assumes nothing.
-use mathlib.Core.Path.{_≡_, refl, sym, _∙_}
+use mathlib.Core.Path.{_≡_, refl, sym, ap, _∙_}
 use mathlib.Core.Bool.{Bool, true, false, _||_}
 use mathlib.Core.List.{List, [], _∷_, _++_}
 use mathlib.Core.Logic.{_⊎_, inl, inr, ⊎-elim}
@@ -10,8 +10,9 @@ use lib.Dec.{eqb}
 use Rattle.terms.proofs.Below.{or-left, or-right}
 use Rattle.terms.specs.Refusals.{firstFault, FirstFault, tested, OneOf}
 use Rattle.terms.specs.Maps.{mapFaults}
+use Rattle.terms.specs.Alphabets.{alphabetFaults}
 use Rattle.terms.specs.Limits.{limitsFaults}
-use Rattle.terms.specs.Texts.{Text, textFaults, openingFaults}
+use Rattle.terms.specs.Texts.{Text, tooLong, stringFaults, textFaults, pairFaults, openingFaults}
 use Rattle.terms.specs.declared.limits.Limits.{Limits}
 
 pub fault-unique : (ts : List (ℕ × Type 0)) (j k : ℕ) → FirstFault ts j → FirstFault ts k → j ≡ k
@@ -21,7 +22,7 @@ fault-unique (t ∷ ts) j k (inl p) (inr q) = absurd (q .0 (p .0))
 fault-unique (t ∷ ts) j k (inr p) (inl q) = absurd (p .0 (q .0))
 fault-unique (t ∷ ts) j k (inr p) (inr q) = fault-unique ts j k (p .1) (q .1)
 
-false-true : true ≡ false → ⊥
+pub false-true : true ≡ false → ⊥
 false-true e = let z : _≡_ {A = ℕ} 0 1 = cc in omega arith
 
 -- every number of a list is a refusal's
@@ -103,9 +104,41 @@ module _ (us : List (ℕ × Type 0)) (k : ℕ) where
   tested-next ((m, false) ∷ ts) n h f = inr ((λ z. let y : true ≡ false = sym z in false-true y), tested-next ts (n .1) h f)
 
 -- the opening's list: the text's refusal stands, or else the limits' is the first
+pub string-numbered : (s f : List ℕ) → Numbered (stringFaults s f)
+unfolding stringFaults mapFaults
+string-numbered s f = (omega arith, (omega arith, (omega arith, tt)))
+
 pub text-numbered : (x : Text) → Numbered (textFaults x)
-unfolding textFaults mapFaults
-text-numbered x = (omega arith, (omega arith, (omega arith, tt)))
+unfolding textFaults stringFaults mapFaults alphabetFaults
+text-numbered x = (omega arith, (omega arith, (omega arith, (omega arith, (omega arith, tt)))))
+
+-- the string's and map's refusal stands, or else the alphabet's is the first
+module _ (x : Text) where
+  pub string-refuses : (k : ℕ) → k ≡ firstFault (stringFaults (x .letters) (x .map)) → (k ≡ 0 → ⊥) → k ≡ firstFault (textFaults x)
+  unfolding textFaults
+  string-refuses = fault-first (stringFaults (x .letters) (x .map)) (alphabetFaults (x .letters) (x .map) (x .alphabet))
+
+  pub string-passes : (j k : ℕ) → j ≡ firstFault (stringFaults (x .letters) (x .map)) → j ≡ 0 → k ≡ firstFault (alphabetFaults (x .letters) (x .map) (x .alphabet)) → k ≡ firstFault (textFaults x)
+  unfolding textFaults
+  string-passes = fault-next (stringFaults (x .letters) (x .map)) (alphabetFaults (x .letters) (x .map) (x .alphabet)) (string-numbered (x .letters) (x .map))
+
+-- of two strings: the second too long, or else the first with the map
+module _ (s t f : List ℕ) where
+  pub pair-long : tooLong t ≡ true → 1 ≡ firstFault (pairFaults s t f)
+  unfolding firstFault pairFaults
+  pair-long e = go (tooLong s)
+    where
+      go : (b : Bool) → 1 ≡ firstFault ((1, b || tooLong t) ∷ mapFaults f)
+      go true = refl
+      go false = sym (ap (λ (a : Bool). firstFault ((1, a) ∷ mapFaults f)) e)
+
+  pub pair-short : tooLong t ≡ false → firstFault (pairFaults s t f) ≡ firstFault (stringFaults s f)
+  unfolding pairFaults stringFaults
+  pair-short e = ap (λ (a : Bool). firstFault ((1, a) ∷ mapFaults f)) (go (tooLong s))
+    where
+      go : (b : Bool) → (b || tooLong t) ≡ b
+      go true = refl
+      go false = e
 
 pub limits-numbered : (l : Limits) → Numbered (limitsFaults l)
 unfolding limitsFaults

@@ -1,14 +1,15 @@
 -- What the tests of a map say, and that both maps supplied pass them. Assumes nothing.
 use mathlib.Core.Path.{_≡_, refl, sym, ap, _∙_}
-use mathlib.Core.Bool.{true}
+use mathlib.Core.Bool.{true, not}
 use mathlib.Core.List.{List}
 use Prim.Native.Nat.{ℕ, zero, suc, _+_, _<_, _≤_}
 use native.Mathlib.Omega.{arith}
-use borrow.Author.Tests.{eqb-true}
+use borrow.Author.Tests.{eqb-true, ne-eqb}
 use lib.Dec.{eqb}
-use lib.ListN.{length, getD}
+use lib.ListN.{length, getD, replicate, length-replicate, getD-replicate}
 use lib.Seq.{ext-getD}
 use Rattle.terms.specs.Maps.{partner, everyBelow, valuesFrom, ownInverse, plainMap, complementMap, mapFaults}
+use Rattle.terms.specs.Alphabets.{isIn, allBytes}
 use Rattle.terms.specs.Refusals.{firstFault}
 use Rattle.terms.proofs.Below.{below-at}
 use Rattle.terms.proofs.Ranges.{Filled}
@@ -26,6 +27,17 @@ pub complement-passes : firstFault (mapFaults complementMap) ≡ 0
 unfolding firstFault mapFaults ownInverse everyBelow complementMap
 complement-passes = refl
 
+-- Every byte is a letter of all 256.
+pub all-long : length allBytes ≡ 256
+unfolding allBytes
+all-long = length-replicate {A = ℕ} 256 1
+
+pub all-in : (b : ℕ) → b < 256 → isIn allBytes b ≡ true
+unfolding allBytes
+all-in b h =
+    let e : _≡_ {A = ℕ} (getD (replicate 256 1) b 0) 1 = getD-replicate {A = ℕ} 256 b 1 0 h in
+    ap not (ne-eqb _ 0 (λ (z : getD (replicate 256 1) b 0 ≡ 0). omega arith))
+
 -- A rule's values, as many as asked, each in its place.
 pub values-length : (rule : ℕ → ℕ) (x k : ℕ) → length (valuesFrom x k rule) ≡ k
 values-length rule x zero = refl
@@ -36,12 +48,11 @@ values-at rule x zero i h = absurd (omega arith)
 values-at rule x (suc k) zero h = ap rule (omega arith)
 values-at rule x (suc k) (suc i) h = values-at rule (suc x) k i (omega arith) ∙ ap rule (let e : suc x + i ≡ x + suc i = omega arith in e)
 
--- 256 entries that hold their own place are the plain map.
-pub plain-filled : (b a : List ℕ) {k : ℕ} → 256 ≤ k → length b ≡ 256 → Filled (λ i v. v ≡ i) 0 k b a → a ≡ plainMap
-unfolding plainMap
-plain-filled b a l e f =
-    ext-getD 0 a (valuesFrom 0 256 (λ x. x)) (f .long ∙ e ∙ sym (values-length (λ x. x) 0 256))
+-- 256 entries that hold a rule's values are the rule's list.
+pub rule-filled : (rule : ℕ → ℕ) (b a : List ℕ) {k : ℕ} → 256 ≤ k → length b ≡ 256 → Filled (λ i v. v ≡ rule i) 0 k b a → a ≡ valuesFrom 0 256 rule
+rule-filled rule b a l e f =
+    ext-getD 0 a (valuesFrom 0 256 rule) (f .long ∙ e ∙ sym (values-length rule 0 256))
     (λ i h.
     let n : length a ≡ length b = f .long in
     let z : 0 + i ≡ i = omega arith in
-    f .held i (omega arith) (omega arith) ∙ sym (values-at (λ x. x) 0 256 i (omega arith) ∙ z))
+    f .held i (omega arith) (omega arith) ∙ sym (values-at rule 0 256 i (omega arith) ∙ ap rule z))

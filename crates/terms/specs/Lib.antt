@@ -2,6 +2,7 @@
 pub mod Sizes
 pub mod Refusals
 pub mod Maps
+pub mod Alphabets
 pub mod Limits
 pub mod Texts
 pub mod Passed

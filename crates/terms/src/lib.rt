@@ -1,7 +1,7 @@
-// What a question is put in: sizes, letter maps, limits, and the refusals that concern these alone.
+// What a question is put in: sizes, letter maps, alphabets, limits, and the refusals that concern these alone.
+pub mod alphabets;
 pub mod limits;
 pub mod maps;
-pub mod texts;
 
 // The most letters of a string.
 pub const LETTERS: usize = 1000;

@@ -1,7 +1,7 @@
 -- `longest` meets its contract. Assumes nothing.
 use borrow.Author.Needs.{needs}
 use mathlib.Core.Path.{sym, _∙_}
-use Rattle.terms.proofs.Passed.{sound-text}
+use Rattle.terms.proofs.Passed.{sound-string}
 use Rattle.longest.proofs.Firsts.{longest-inside}
 use Rattle.longest.proofs.Handing.{longest-refused, longest-handed}
 use Rattle.longest.proofs.longest.Statement.{statement}
@@ -17,7 +17,7 @@ returns : tie.Need-returns
 returns c = longest-refused _ _ _ _ (c .before .before .longest-refusal .ensures) (c .before .if1 .taken) (c .part .ensures)
 
 first-longest-requires : tie.Need-first-longest-requires
-first-longest-requires c κs = sound-text _ (sym (c .before .longest-refusal .ensures) ∙ c .if1 .left)
+first-longest-requires c κs = sound-string _ _ (sym (c .before .longest-refusal .ensures) ∙ c .if1 .left)
 
 part-requires-2 : tie.Need-part-requires-2
 part-requires-2 c κs = longest-inside _ _ _ _ (c .first-longest .ensures)

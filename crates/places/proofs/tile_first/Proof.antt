@@ -16,6 +16,9 @@ part-tile-end c = search needs
 slice-aggregate-tile : tie.Need-slice-aggregate-tile
 slice-aggregate-tile c = search needs
 
+slice-aggregate-tile-2 : tie.Need-slice-aggregate-tile-2
+slice-aggregate-tile-2 c = search needs
+
 tile-requires : tie.Need-tile-requires
 tile-requires c κs = search needs
 
@@ -36,6 +39,7 @@ tile-first-spec =
     part-tile-start
     part-tile-end
     slice-aggregate-tile
+    slice-aggregate-tile-2
     tile-requires
     same-length
     same-length-2

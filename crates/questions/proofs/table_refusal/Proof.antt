@@ -20,7 +20,7 @@ add-if2-2 : tie.Need-add-if2-2
 add-if2-2 c = let h = opened _ _ 0 _ (c .before .opening-refusal .ensures) (c .if1 .left) in omega (arith, h .1 .few)
 
 mul-if2 : tie.Need-mul-if2
-mul-if2 c = let h = opened _ _ 0 _ (c .before .opening-refusal .ensures) (c .if1 .left) in let a = c .before .before .before .before .args in omega (arith, index-small (a .limits .g) (ListN.length (a .s .now)) (h .0 .short) (h .1 .few), h .1 .few)
+mul-if2 c = let h = opened _ _ 0 _ (c .before .opening-refusal .ensures) (c .if1 .left) in let a = c .before .before .before .before .before .args in omega (arith, index-small (a .limits .g) (ListN.length (a .s .now)) (h .0 .short) (h .1 .few), h .1 .few)
 
 returns-2 : tie.Need-returns-2
 returns-2 c = table-refuses _ _ _ _ (c .before .before .opening-refusal .ensures) (c .before .if1 .left) (c .if2 .taken)

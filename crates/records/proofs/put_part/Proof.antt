@@ -2,7 +2,7 @@
 use borrow.Author.Needs.{needs}
 use Prim.Native.Nat.{_*_}
 use native.Mathlib.Omega.{arith}
-use Rattle.terms.specs.Texts.{text}
+use Rattle.terms.specs.Texts.{textAll}
 use Rattle.records.proofs.Putting.{fit-piece, fit-gap, put-piece, put-gap}
 use Rattle.records.proofs.put_part.Statement.{statement}
 use Rattle.records.proofs.put_part.Tie as tie
@@ -26,7 +26,7 @@ same-length : tie.Need-same-length
 same-length c = search needs
 
 returns : tie.Need-returns
-returns c = let a = c .before .before .before .before .before .before .before .before .before .args in put-piece (text (a .s .now) (a .map .now)) (a .code) (a .i) (c .before .before .before .before .before .before .before .before .before .pre .1) (6 * a .k) (a .room .now) _ (c .before .before .before .before .before .if1 .taken) _ (c .before .before .before .before .count-errors .ensures) (c .before .before .put-record .ensures)
+returns c = let a = c .before .before .before .before .before .before .before .before .before .args in put-piece (textAll (a .s .now) (a .map .now)) (a .code) (a .i) (c .before .before .before .before .before .before .before .before .before .pre .1) (6 * a .k) (a .room .now) _ (c .before .before .before .before .before .if1 .taken) _ (c .before .before .before .before .count-errors .ensures) (c .before .before .put-record .ensures)
 
 mul-put-record-2 : tie.Need-mul-put-record-2
 mul-put-record-2 c = search needs
@@ -41,7 +41,7 @@ same-length-2 : tie.Need-same-length-2
 same-length-2 c = search needs
 
 returns-2 : tie.Need-returns-2
-returns-2 c = let a = c .before .before .before .before .before .before .before .before .args in put-gap (text (a .s .now) (a .map .now)) (a .code) (a .i) (c .before .before .before .before .before .before .before .before .pre .1) (6 * a .k) (a .room .now) _ (c .before .before .before .before .if1 .left) (c .before .before .put-record2 .ensures)
+returns-2 c = let a = c .before .before .before .before .before .before .before .before .args in put-gap (textAll (a .s .now) (a .map .now)) (a .code) (a .i) (c .before .before .before .before .before .before .before .before .pre .1) (6 * a .k) (a .room .now) _ (c .before .before .before .before .if1 .left) (c .before .before .put-record2 .ensures)
 
 pub put-part-spec : {M : Type 1} → statement M
 put-part-spec =

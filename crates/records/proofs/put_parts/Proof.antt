@@ -1,13 +1,13 @@
 -- `put_parts` meets its contract: the first k records are stored. Assumes nothing.
 use Prim.Native.Nat.{_-_}
 use native.Mathlib.Omega.{arith}
-use Rattle.terms.specs.Texts.{text}
+use Rattle.terms.specs.Texts.{textAll}
 use Rattle.records.proofs.Putting.{Putting, putting-start, putting-fit, putting-next, putting-end}
 use Rattle.records.proofs.put_parts.Statement.{statement}
 use Rattle.records.proofs.put_parts.Tie as tie
 
 abbrev Inv-loop : tie.InvT-loop
-Inv-loop s map codes parts room₀ k₀ i₀ room k i = Putting (text s map) codes parts room₀ room k i
+Inv-loop s map codes parts room₀ k₀ i₀ room k i = Putting (textAll s map) codes parts room₀ room k i
 
 abbrev μ-loop : tie.MeasureT-loop
 μ-loop s map codes parts room₀ k₀ i₀ room k i = parts - k

@@ -10,10 +10,13 @@ use Rattle.spans.proofs.fill_lengths.Statement.{statement}
 use Rattle.spans.proofs.fill_lengths.Tie as tie
 
 abbrev Inv-loop : tie.InvT-loop
-Inv-loop s map d out₀ count c₀ out c = (count ≡ centres (ListN.length s)) × (c ≤ count) × Filled (MaximalLength (text s map) d) 0 c out₀ out
+Inv-loop s map d out₀ alphabet own count c₀ out c = (count ≡ centres (ListN.length s)) × (c ≤ count) × Filled (MaximalLength (text s map alphabet) d) 0 c out₀ out
 
 abbrev μ-loop : tie.MeasureT-loop
-μ-loop s map d out₀ count c₀ out c = count - c
+μ-loop s map d out₀ alphabet own count c₀ out c = count - c
+
+own-partner-requires : tie.Need-own-partner-requires Inv-loop μ-loop
+own-partner-requires c κs = c .before .before .before .before .pre .0 .wide
 
 centre-count-requires : tie.Need-centre-count-requires Inv-loop μ-loop
 centre-count-requires c κs = omega arith
@@ -37,7 +40,7 @@ loop-less : tie.Need-loop-less Inv-loop μ-loop
 loop-less c = omega arith
 
 loop-again : tie.Need-loop-again Inv-loop μ-loop
-loop-again c = (c .before .before .loop .inv .0, omega arith, fill-up _ 0 _ _ _ (c .before .before .loop .inv .2) _ (omega arith) (omega arith) (c .walk .ensures))
+loop-again c = (c .before .before .loop .inv .0, omega arith, fill-up _ 0 _ _ _ (c .before .before .loop .inv .2) _ (omega arith) (omega arith) (c .walk .ensures _ (c .before .before .before .before .before .before .before .before .before .pre .0) (c .before .before .before .before .own-partner .ensures)))
 
 same-length : tie.Need-same-length Inv-loop μ-loop
 same-length c = c .before .loop .inv .2 .long
@@ -51,6 +54,7 @@ fill-lengths-spec =
     (tie.spec
     Inv-loop
     μ-loop
+    own-partner-requires
     centre-count-requires
     loop-holds
     walk-requires

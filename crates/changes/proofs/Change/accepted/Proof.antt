@@ -14,7 +14,7 @@ accepted-requires c κs = search needs
 
 returns : tie.Need-returns
 unfolding acceptsChange
-returns c = simp (ap (accepts _) (sym (c .before .before .done .ensures)) ∙ sym (c .before .accepted .ensures) ∙ not-true _ (c .if1 .taken))
+returns c = simp (ap (accepts _ _) (sym (c .before .before .done .ensures)) ∙ sym (c .before .accepted .ensures) ∙ not-true _ (c .if1 .taken))
 
 back-requires : tie.Need-back-requires
 back-requires c κs = search needs
@@ -24,7 +24,7 @@ accepted-requires-2 c κs = search needs
 
 returns-2 : tie.Need-returns-2
 unfolding acceptsChange
-returns-2 c = simp (ap (accepts _) (sym (c .before .before .before .before .done .ensures)) ∙ sym (c .before .before .before .accepted .ensures) ∙ not-false _ (c .before .before .if1 .left)) (c .accepted2 .ensures ∙ ap (accepts _) (c .before .back .ensures))
+returns-2 c = simp (ap (accepts _ _) (sym (c .before .before .before .before .done .ensures)) ∙ sym (c .before .before .before .accepted .ensures) ∙ not-false _ (c .before .before .if1 .left)) (c .accepted2 .ensures ∙ ap (accepts _ _) (c .before .back .ensures))
 
 pub accepted-spec : {M : Type 1} → statement M
 accepted-spec =

@@ -17,11 +17,11 @@ enum-told c = search needs
 returns : tie.Need-returns
 returns c = search needs
 
-map-after-requires : tie.Need-map-after-requires
-map-after-requires c κs = search needs
+both-after-requires : tie.Need-both-after-requires
+both-after-requires c κs = search needs
 
-enum-known-map : tie.Need-enum-known-map
-enum-known-map c = search needs
+enum-known-letters : tie.Need-enum-known-letters
+enum-known-letters c = search needs
 
 enum-told-2 : tie.Need-enum-told-2
 enum-told-2 c = search needs
@@ -73,8 +73,8 @@ tiling-line-spec =
     enum-known-limits
     enum-told
     returns
-    map-after-requires
-    enum-known-map
+    both-after-requires
+    enum-known-letters
     enum-told-2
     returns-2
     number-after-requires

@@ -32,11 +32,17 @@ bytes-of-requires c κs = search needs
 size-of-requires : tie.Need-size-of-requires
 size-of-requires c κs = search needs
 
+flags-of-requires : tie.Need-flags-of-requires
+flags-of-requires c κs = search needs
+
+count-of-requires : tie.Need-count-of-requires
+count-of-requires c κs = search needs
+
 sub-agree : tie.Need-sub-agree
-sub-agree c = let h = place-in _ _ _ _ (c .before .before .before .stands .ensures) (c .before .before .if1 .left) in omega arith
+sub-agree c = let h = place-in _ _ _ _ (c .before .before .before .before .before .stands .ensures) (c .before .before .before .before .if1 .left) in omega arith
 
 part-agree-start : tie.Need-part-agree-start
-part-agree-start c = let h = place-in _ _ _ _ (c .before .before .before .stands .ensures) (c .before .before .if1 .left) in omega arith
+part-agree-start c = let h = place-in _ _ _ _ (c .before .before .before .before .before .stands .ensures) (c .before .before .before .before .if1 .left) in omega arith
 
 part-agree-end : tie.Need-part-agree-end
 part-agree-end c = search needs
@@ -58,6 +64,15 @@ part-agree-start-3 c = search needs
 
 part-agree-end-3 : tie.Need-part-agree-end-3
 part-agree-end-3 c = search needs
+
+sub-agree-4 : tie.Need-sub-agree-4
+sub-agree-4 c = search needs
+
+part-agree-start-4 : tie.Need-part-agree-start-4
+part-agree-start-4 c = search needs
+
+part-agree-end-4 : tie.Need-part-agree-end-4
+part-agree-end-4 c = search needs
 
 agree-requires : tie.Need-agree-requires
 agree-requires c κs = search needs
@@ -90,6 +105,8 @@ agreement-spec =
     add-string
     bytes-of-requires
     size-of-requires
+    flags-of-requires
+    count-of-requires
     sub-agree
     part-agree-start
     part-agree-end
@@ -99,6 +116,9 @@ agreement-spec =
     sub-agree-3
     part-agree-start-3
     part-agree-end-3
+    sub-agree-4
+    part-agree-start-4
+    part-agree-end-4
     agree-requires
     slice-aggregate-put-line
     put-line-requires

@@ -1,7 +1,8 @@
+-- `shifted` meets its contract: the entries below x are set. Assumes nothing.
 use mathlib.Core.Path.{_≡_, refl}
 use Rattle.terms.proofs.Ranges.{Filled, fill-none, fill-up}
-use Rattle.inspect.proofs.Lending.{all-shifted}
--- `shifted` meets its contract: the entries below x are set. Assumes nothing.
+use Rattle.terms.proofs.Supplied.{rule-filled}
+use Rattle.inspect.specs.Lending.{shiftedMap}
 use Prim.Native.Nat.{_+_, _%_, _≤_, _-_}
 use native.Mathlib.Omega.{arith}
 use Rattle.inspect.proofs.maps.shifted.Statement.{statement}
@@ -35,7 +36,8 @@ loop-again : tie.Need-loop-again Inv-loop μ-loop
 loop-again c = (omega arith, fill-up _ 0 _ _ _ (c .before .loop .inv .1) _ (omega arith) (omega arith) refl)
 
 returns : tie.Need-returns Inv-loop μ-loop
-returns c = all-shifted _ _ (omega arith) (omega arith) (c .before .loop .inv .1)
+unfolding shiftedMap
+returns c = rule-filled (λ k. (k + 1) % 256) _ _ (omega arith) (omega arith) (c .before .loop .inv .1)
 
 pub shifted-spec : {M : Type 1} → statement M
 shifted-spec =

@@ -12,10 +12,10 @@ enum-known-e : tie.Need-enum-known-e
 enum-known-e c = search needs
 
 element-copy-out-old : tie.Need-element-copy-out-old
-element-copy-out-old c = omega (arith, place-inside _ _ _ (ap (accepts _) (sym (c .before .e .given .1)) ∙ c .before .before .before .pre .1))
+element-copy-out-old c = omega (arith, place-inside _ _ _ _ (ap (accepts _ _) (sym (c .before .e .given .1)) ∙ c .before .before .before .pre .1))
 
 with-letter-requires : tie.Need-with-letter-requires
-with-letter-requires c κs = omega (arith, place-inside _ _ _ (ap (accepts _) (sym (c .before .before .e .given .1)) ∙ c .before .before .before .before .pre .1))
+with-letter-requires c κs = omega (arith, place-inside _ _ _ _ (ap (accepts _ _) (sym (c .before .before .e .given .1)) ∙ c .before .before .before .before .pre .1))
 
 enum-known-e-2 : tie.Need-enum-known-e-2
 enum-known-e-2 c = search needs

@@ -1,4 +1,5 @@
 -- `Sheet::kept_accepted` meets its contract: the first i kept changes pass. Assumes nothing.
+use borrow.Author.Needs.{needs}
 use Prim.Native.Nat.{_-_, _≤_}
 use borrow.Author.Tests.{not-true, not-false}
 use mathlib.Core.Bool.{true}
@@ -10,10 +11,10 @@ use Rattle.sheet.proofs.Sheet.kept_accepted.Statement.{statement}
 use Rattle.sheet.proofs.Sheet.kept_accepted.Tie as tie
 
 abbrev Inv-loop : tie.InvT-loop
-Inv-loop many self n i₀ i = (i ≤ many) × (AllAccepted n (self .kept) i ≡ true)
+Inv-loop many self n alphabet i₀ i = (i ≤ many) × (AllAccepted n alphabet (self .kept) i ≡ true)
 
 abbrev μ-loop : tie.MeasureT-loop
-μ-loop many self n i₀ i = many - i
+μ-loop many self n alphabet i₀ i = many - i
 
 loop-holds : tie.Need-loop-holds Inv-loop μ-loop
 loop-holds c = (omega arith, below-zero _)
@@ -24,11 +25,14 @@ mul-k c = omega arith
 element-copy-out-k : tie.Need-element-copy-out-k Inv-loop μ-loop
 element-copy-out-k c = omega arith
 
+slice-aggregate-accepted : tie.Need-slice-aggregate-accepted Inv-loop μ-loop
+slice-aggregate-accepted c = search needs
+
 accepted-requires : tie.Need-accepted-requires Inv-loop μ-loop
 accepted-requires c κs = tt
 
 returns : tie.Need-returns Inv-loop μ-loop
-returns c = sym (below-not _ _ (c .before .before .before .before .loop .i) (c .before .before .before .loop-test .taken) (sym (c .before .accepted .ensures) ∙ not-true _ (c .if1 .taken)))
+returns c = sym (below-not _ _ (c .before .before .before .before .before .loop .i) (c .before .before .before .before .loop-test .taken) (sym (c .before .accepted .ensures) ∙ not-true _ (c .if1 .taken)))
 
 add-i : tie.Need-add-i Inv-loop μ-loop
 add-i c = omega arith
@@ -37,7 +41,7 @@ loop-less : tie.Need-loop-less Inv-loop μ-loop
 loop-less c = omega arith
 
 loop-again : tie.Need-loop-again Inv-loop μ-loop
-loop-again c = (omega arith, below-more _ _ (c .before .before .before .before .loop .inv .1) (sym (c .before .accepted .ensures) ∙ not-false _ (c .if1 .left)))
+loop-again c = (omega arith, below-more _ _ (c .before .before .before .before .before .loop .inv .1) (sym (c .before .accepted .ensures) ∙ not-false _ (c .if1 .left)))
 
 returns-2 : tie.Need-returns-2 Inv-loop μ-loop
 returns-2 c = sym (below-all _ _ _ (c .before .loop .inv .1) (omega arith))
@@ -51,6 +55,7 @@ kept-accepted-spec =
     loop-holds
     mul-k
     element-copy-out-k
+    slice-aggregate-accepted
     accepted-requires
     returns
     add-i

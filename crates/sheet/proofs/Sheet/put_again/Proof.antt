@@ -47,7 +47,7 @@ sub-apply : tie.Need-sub-apply
 sub-apply c = let s = c .before .before .before .before .before .before .before .before .before .args .self in let z = popped-is (s .taken) (lastTaken s) _ (sym (c .before .before .before .before .before .before .last-taken .ensures .0) ∙ c .before .before .before .before .c .given .1) .1 in omega arith
 
 apply-requires : tie.Need-apply-requires
-apply-requires c κs = let w = sym (c .before .before .before .before .before .before .before .before .in-bounds .ensures) ∙ not-false _ (c .before .before .before .before .before .before .before .if1 .left) in (bounds _ w .letters, ap (accepts _) (c .before .before .done .ensures) ∙ last-done _ _ w (sym (c .before .before .before .before .before .before .last-taken .ensures .0) ∙ c .before .before .before .before .c .given .1))
+apply-requires c κs = let w = sym (c .before .before .before .before .before .before .before .before .in-bounds .ensures) ∙ not-false _ (c .before .before .before .before .before .before .before .if1 .left) in (bounds _ w .letters, ap (accepts _ _) (c .before .before .done .ensures) ∙ last-done _ _ w (sym (c .before .before .before .before .before .before .last-taken .ensures .0) ∙ c .before .before .before .before .c .given .1))
 
 returns-3 : tie.Need-returns-3
 returns-3 c = let s = c .before .before .before .before .before .before .before .before .before .before .args .self in let w = sym (c .before .before .before .before .before .before .before .before .before .in-bounds .ensures) ∙ not-false _ (c .before .before .before .before .before .before .before .before .if1 .left) in let o = c .before .before .before .before .before .before .before .last-taken .ensures in let q = c .before .before .before .before .before .c .given .1 in call-accepted _ _ _ (again-number s w 0 (ap (poppedNumber 9) (sym q) ∙ o .1)) _ (c .apply .ensures ∙ ap (λ (e : Edit). applied s e (s .standing + 1) (s .taken - 1)) (c .before .before .before .done .ensures ∙ again-is s _ (sym (o .0) ∙ q))) (applied-accepted _ _ _ _)

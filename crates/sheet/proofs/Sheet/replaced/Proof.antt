@@ -12,7 +12,7 @@ enum-known-e : tie.Need-enum-known-e
 enum-known-e c = search needs
 
 element-copy-out-t11 : tie.Need-element-copy-out-t11
-element-copy-out-t11 c = omega (arith, place-inside _ _ _ (ap (accepts _) (sym (c .before .e .given .1)) ∙ c .before .before .before .pre .1))
+element-copy-out-t11 c = omega (arith, place-inside _ _ _ _ (ap (accepts _ _) (sym (c .before .e .given .1)) ∙ c .before .before .before .pre .1))
 
 enum-known-e-2 : tie.Need-enum-known-e-2
 enum-known-e-2 c = search needs

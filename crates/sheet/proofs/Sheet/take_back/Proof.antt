@@ -47,7 +47,7 @@ add-apply : tie.Need-add-apply
 add-apply c = omega (arith, bounds _ (sym (c .before .before .before .before .before .before .before .before .in-bounds .ensures) ∙ not-false _ (c .before .before .before .before .before .before .before .if1 .left)) .few)
 
 apply-requires : tie.Need-apply-requires
-apply-requires c κs = let w = sym (c .before .before .before .before .before .before .before .before .in-bounds .ensures) ∙ not-false _ (c .before .before .before .before .before .before .before .if1 .left) in (bounds _ w .letters, ap (accepts _) (c .before .before .back .ensures) ∙ newest-back _ _ w (sym (c .before .before .before .before .before .before .newest .ensures .0) ∙ c .before .before .before .before .c .given .1))
+apply-requires c κs = let w = sym (c .before .before .before .before .before .before .before .before .in-bounds .ensures) ∙ not-false _ (c .before .before .before .before .before .before .before .if1 .left) in (bounds _ w .letters, ap (accepts _ _) (c .before .before .back .ensures) ∙ newest-back _ _ w (sym (c .before .before .before .before .before .before .newest .ensures .0) ∙ c .before .before .before .before .c .given .1))
 
 returns-3 : tie.Need-returns-3
 returns-3 c = let s = c .before .before .before .before .before .before .before .before .before .before .args .self in let w = sym (c .before .before .before .before .before .before .before .before .before .in-bounds .ensures) ∙ not-false _ (c .before .before .before .before .before .before .before .before .if1 .left) in let o = c .before .before .before .before .before .before .before .newest .ensures in let q = c .before .before .before .before .before .c .given .1 in call-accepted _ _ _ (back-number s w 0 (ap (poppedNumber 8) (sym q) ∙ o .1)) _ (c .apply .ensures ∙ ap (λ (e : Edit). applied s e (s .standing - 1) (s .taken + 1)) (c .before .before .before .back .ensures ∙ back-is s _ (sym (o .0) ∙ q))) (applied-accepted _ _ _ _)

@@ -2,8 +2,9 @@
 use mathlib.Core.Path.{_≡_, refl}
 use Prim.Native.Nat.{_≤_, _-_}
 use native.Mathlib.Omega.{arith}
+use Rattle.terms.specs.Maps.{plainMap}
 use Rattle.terms.proofs.Ranges.{Filled, fill-none, fill-up}
-use Rattle.terms.proofs.Supplied.{plain-filled}
+use Rattle.terms.proofs.Supplied.{rule-filled}
 use Rattle.terms.proofs.maps.plain.Statement.{statement}
 use Rattle.terms.proofs.maps.plain.Tie as tie
 
@@ -32,7 +33,8 @@ loop-again : tie.Need-loop-again Inv-loop μ-loop
 loop-again c = (omega arith, fill-up _ 0 _ _ _ (c .before .loop .inv .1) _ (omega arith) (omega arith) refl)
 
 returns : tie.Need-returns Inv-loop μ-loop
-returns c = plain-filled _ _ (omega arith) (omega arith) (c .before .loop .inv .1)
+unfolding plainMap
+returns c = rule-filled (λ x. x) _ _ (omega arith) (omega arith) (c .before .loop .inv .1)
 
 pub plain-spec : {M : Type 1} → statement M
 plain-spec =

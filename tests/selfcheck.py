@@ -1,0 +1,389 @@
+"""The second program's self-check: both of its ways to each question agree,
+for every map and alphabet that an opening accepts. A part file is judged to be
+a permitted tiling exactly when it is the file of one of all permitted tilings,
+and a span is a d-palindrome exactly when some exact palindrome over the
+alphabet differs from it in at most d places.
+
+    python3 tests/second.py self-check
+"""
+
+import itertools
+import random
+import sys
+
+from second import (
+    ALPHABETS, BRUTE_TILINGS, BYTES_A_PART, GAP, INSPECT_MAPS, MOST_CHANGES,
+    NO_TILING, Refusal, Sheet, all_tilings, alphabet_of, ask_agreement,
+    ask_centres, error_count, exact_lengths, gap_total, has_own_partner,
+    is_d_palindrome, is_exact_palindrome, longest_palindrome,
+    longest_palindrome_by_definition, maximal_length_by_definition,
+    maximal_lengths, pieces_by_definition, read_part, record_of, records_of,
+    tile_by_brute_force, tile_by_table)
+
+# By hand from the descriptions of maps and alphabets: the letters of each
+# alphabet, the alphabets that a map closes, and those among them with a letter
+# that is its own partner.
+LETTERS_OF = {b"*": bytes(range(256)), b"D": b"ACGT", b"N": b"ACGTN",
+              b"O": b"ACG", b"E": b""}
+CLOSED = {b"I": [b"*", b"D", b"N", b"O", b"E"], b"C": [b"*", b"D", b"N", b"E"],
+          b"Y": [b"*", b"E"]}
+WITH_OWN_PARTNER = {b"I": [b"*", b"D", b"N", b"O"], b"C": [b"*", b"N"],
+                    b"Y": []}
+
+# All maps with all alphabets that an opening accepts, beside letters for the
+# strings that are checked under both, and the length up to which all such
+# strings are written out.
+WRITTEN = [
+    (b"I", b"*", b"AC", 6), (b"I", b"*", b"ACGT", 2), (b"I", b"D", b"AC", 4),
+    (b"I", b"D", b"ACGT", 2), (b"I", b"N", b"AN", 4), (b"I", b"O", b"ACG", 2),
+    (b"I", b"E", b"", 0), (b"C", b"*", b"AT", 6), (b"C", b"*", b"AN", 6),
+    (b"C", b"*", b"ACGT", 2), (b"C", b"D", b"AT", 5), (b"C", b"D", b"AC", 5),
+    (b"C", b"D", b"ACGT", 3), (b"C", b"N", b"AT", 4), (b"C", b"N", b"ATN", 3),
+    (b"C", b"N", b"ACGTN", 2), (b"C", b"E", b"", 0), (b"Y", b"*", b"@A", 5),
+    (b"Y", b"*", b"AC", 4), (b"Y", b"*", b"@ABC", 3), (b"Y", b"E", b"", 0)]
+
+# Small alphabets closed under a map, over which all palindromes are written
+# out.
+SMALL_ALPHABETS = [
+    (b"I", b"A"), (b"I", b"ACG"), (b"C", b"AT"), (b"C", b"ACGT"),
+    (b"C", b"ACGTN"), (b"C", b"ATN"), (b"C", b"N"), (b"C", b"NX"),
+    (b"Y", b"@A"), (b"Y", b"@ABC")]
+
+
+def small_strings(letters, most):
+    for length in range(most + 1):
+        for word in itertools.product(letters, repeat=length):
+            yield bytes(word)
+
+
+def small_limits():
+    for kind, m, g, d in itertools.product(
+            (1, 2), (1, 2, 3), (0, 1, 2, 3), (0, 1, 2)):
+        if kind == 2 or d == 0:
+            yield kind, m, g, d
+
+
+def must_agree(what, case, one, other):
+    if one != other:
+        sys.exit("self-check FAILED: %s of %r: %r and %r"
+                 % (what, case, one, other))
+
+
+def number_of(call, *arguments):
+    """The number that a call is refused with, or 0."""
+    try:
+        call(*arguments)
+    except Refusal as refusal:
+        return refusal.number
+    return 0
+
+
+# Refusals: each list of tests against the calls.
+
+def first_fault(tests):
+    """The number of the first test that holds, or 0."""
+    return next((number for number, holds in tests if holds), 0)
+
+
+def spelling_tests(letters, map_name, name):
+    known = LETTERS_OF.get(name, b"")
+    return [(1, len(letters) > 1000), (2, map_name == b"S"),
+            (3, map_name == b"X"), (18, name not in CLOSED.get(map_name, [])),
+            (19, any(letter not in known for letter in letters))]
+
+
+def limit_tests(kind, m, g, d):
+    return [(4, kind not in (1, 2)),
+            (5, not 1 <= m <= 1000 or g > 15 or d > 15 or kind == 1 and d > 0)]
+
+
+def check_refusals(letters, map_name, name, limits):
+    """Opening, fill and second question, the last two with too little or
+    with a file that is cut."""
+    case = letters[:10], map_name, name, limits
+    spelt = letters, INSPECT_MAPS[map_name], ALPHABETS[name]
+    spelling = spelling_tests(letters, map_name, name)
+    opening = spelling + limit_tests(*limits)
+    must_agree("opening", case, first_fault(opening),
+               number_of(Sheet, *spelt, *limits))
+    must_agree("fill", case, first_fault(
+        spelling + [(5, limits[3] > 15), (11, len(letters) > 0)]),
+        number_of(ask_centres, *spelt, limits[3], []))
+    must_agree("second question", case, first_fault(opening + [(15, True)]),
+               ask_agreement(*spelt, limits, b"P"))
+
+
+def check_all_refusals():
+    """All maps and alphabets, with strings and limits of all faults."""
+    strings = [b"", b"A", b"AT", b"ACGTN", b"TN", b"NT", b"@", b"N" * 1001]
+    faulty_and_right = [
+        (9, 0, 99, 99), (2, 0, 0, 0), (2, 1001, 0, 0), (2, 1, 16, 0),
+        (2, 1, 0, 16), (1, 1, 0, 1), (1, 1, 0, 0), (2, 1000, 15, 15)]
+    for case in itertools.product(
+            strings, INSPECT_MAPS, ALPHABETS, faulty_and_right):
+        check_refusals(*case)
+
+
+def check_alphabets():
+    """Where a map closes an alphabet: each byte as the only letter, and
+    whether a letter is its own partner."""
+    for map_name, names in CLOSED.items():
+        for name in names:
+            letter_map, alphabet = INSPECT_MAPS[map_name], ALPHABETS[name]
+            must_agree("own partner", (map_name, name),
+                       name in WITH_OWN_PARTNER[map_name],
+                       has_own_partner(letter_map, alphabet))
+            for letter in range(256):
+                number = number_of(Sheet, bytes([letter]), letter_map,
+                                   alphabet, 1, 1, 0, 0)
+                must_agree("letter", (map_name, name, letter),
+                           0 if letter in LETTERS_OF[name] else 19, number)
+
+
+# Spans over an alphabet.
+
+def differing_places(one, other):
+    return sum(1 for x, y in zip(one, other) if x != y)
+
+
+def check_distances(map_name, letters):
+    """Spans over a small alphabet against all exact palindromes over it."""
+    letter_map, alphabet = INSPECT_MAPS[map_name], alphabet_of(letters)
+    most = 5 if len(letters) < 5 else 4
+    words = [word for word in small_strings(letters, most) if word]
+    palindromes = [word for word in words
+                   if is_exact_palindrome(word, letter_map)]
+    for span in words:
+        distances = [differing_places(span, word) for word in palindromes
+                     if len(word) == len(span)]
+        for d in range(6):
+            must_agree("distance", (map_name, letters, span, d),
+                       any(distance <= d for distance in distances),
+                       is_d_palindrome(span, letter_map, alphabet, d))
+        if distances:
+            must_agree("error count", (map_name, letters, span),
+                       min(distances), error_count(span, letter_map))
+    return len(words)
+
+
+# Tilings and palindromes. A case is (letters, map name, alphabet name).
+
+def check_tiling(case, limits):
+    letters, map_name, name = case
+    question = letters, INSPECT_MAPS[map_name], ALPHABETS[name], limits
+    brute = tile_by_brute_force(*question)
+    if brute is None:
+        return 0
+    parts, table = tile_by_table(*question)
+    must_agree("table", (case, limits), brute[1], table)
+    must_agree("parts", (case, limits), brute[0], parts)
+    total = NO_TILING if parts is None else gap_total(parts)
+    must_agree("total", (case, limits), total, table[limits[2]])
+    return 1
+
+
+def check_palindromes(case):
+    letters, map_name, name = case
+    letter_map, alphabet = INSPECT_MAPS[map_name], ALPHABETS[name]
+    must_agree("longest", case, longest_palindrome(letters, letter_map),
+               longest_palindrome_by_definition(letters, letter_map))
+    centres = range(2 * len(letters) - 1)
+    for d in (0, 1, 2, 15):
+        must_agree("centres", (case, d),
+                   maximal_lengths(letters, letter_map, alphabet, d),
+                   [maximal_length_by_definition(
+                       letters, letter_map, alphabet, c, d) for c in centres])
+    # Exact palindromes are the 0-palindromes, also where odd spans are none:
+    # their middle letter would be an own partner in the alphabet.
+    must_agree("exact", case, exact_lengths(letters, letter_map),
+               maximal_lengths(letters, letter_map, alphabet, 0))
+
+
+def check_every_small_string():
+    count = 0
+    for map_name, name, letters, most in WRITTEN:
+        for string in small_strings(letters, most):
+            case = string, map_name, name
+            check_palindromes(case)
+            for limits in small_limits():
+                count += check_tiling(case, limits)
+    return count
+
+
+def any_case(random_source, lengths, most_m):
+    """A string with map and alphabet, and limits, that an opening accepts."""
+    map_name, name, letters, _ = random_source.choice(WRITTEN)
+    string = b""
+    if letters:
+        length = random_source.choice(lengths)
+        string = bytes(random_source.choices(letters, k=length))
+    kind = random_source.choice([1, 2])
+    d = random_source.randrange(4) if kind == 2 else 0
+    m = random_source.randrange(1, most_m + 1)
+    return (string, map_name, name), (kind, m, random_source.randrange(5), d)
+
+
+def check_random_strings(random_source, rounds):
+    count = 0
+    for _ in range(rounds):
+        case, limits = any_case(random_source, range(6, 12), 5)
+        check_palindromes(case)
+        count += check_tiling(case, limits)
+    return count
+
+
+# Part files.
+
+def right_records(pieces):
+    """The records of all pieces and of all gaps inside the string."""
+    count = len(pieces)
+    gaps = [(GAP, start, length, 0) for start in range(count)
+            for length in range(1, count - start + 1)]
+    return {record_of(part) for part in itertools.chain(gaps, *pieces)}
+
+
+def agreement_by_lookup(file, whole_files, records):
+    """The second question's number after the opening's: the file is looked up
+    among those of all permitted tilings, its records among all right ones."""
+    if file in whole_files:
+        return 0
+    if len(file) % BYTES_A_PART != 0:
+        return 15
+    places = range(0, len(file), BYTES_A_PART)
+    known = all(file[k:k + BYTES_A_PART] in records for k in places)
+    return 17 if known else 16
+
+
+def any_cover(random_source, pieces):
+    """Right parts from 0 up to the end; gaps may touch or be too many."""
+    parts, place = [], 0
+    while place < len(pieces):
+        gaps = [(GAP, place, length, 0)
+                for length in range(1, len(pieces) - place + 1)]
+        parts.append(random_source.choice(
+            random_source.choice([gaps, pieces[place] or gaps])))
+        place += parts[-1][2]
+    return parts
+
+
+def damaged(random_source, file):
+    """Records left out, doubled or in another order, the tail cut, or a byte
+    written over."""
+    first, last = sorted(
+        BYTES_A_PART * random_source.randrange(len(file) // BYTES_A_PART + 1)
+        for _ in range(2))
+    place = random_source.randrange(len(file) + 1)
+    byte = random_source.choice([0, 1, 2, 3, 71, 80, 255])
+    return random_source.choice([
+        file[:first] + file[last:], file[:last] + file[first:],
+        file[first:last] + file[:first] + file[last:], file[:place],
+        file[:place] + bytes([byte]) + file[place + 1:]])
+
+
+def check_walk(tiling, file):
+    for index, part in enumerate(tiling):
+        place = BYTES_A_PART * index
+        must_agree("reader", (file, place), read_part(file, place),
+                   (part, place + BYTES_A_PART))
+    must_agree("reader's end", file, read_part(file, len(file)), None)
+
+
+def files_with_odd_spans(letters, letter_map, limits):
+    """Files right for an alphabet with an own partner: under another one
+    their pieces of odd length may be none."""
+    parts, _ = tile_by_table(letters, letter_map, ALPHABETS[b"*"], limits)
+    return [] if parts is None else [records_of(parts)]
+
+
+def check_files(random_source, case, limits, rounds):
+    """Whole files and damaged ones of one string."""
+    letters, map_name, name = case
+    letter_map, alphabet = INSPECT_MAPS[map_name], ALPHABETS[name]
+    pieces = pieces_by_definition(letters, letter_map, alphabet, limits)
+    tilings = list(itertools.islice(
+        all_tilings(pieces, 0, limits[2]), BRUTE_TILINGS + 1))
+    if len(tilings) > BRUTE_TILINGS:
+        return 0
+    whole_files = {records_of(tiling): tiling for tiling in tilings}
+    for file, tiling in whole_files.items():
+        check_walk(tiling, file)
+    records = right_records(pieces)
+    files = random_source.sample(sorted(whole_files),
+                                 min(rounds, len(whole_files)))
+    files += [records_of(any_cover(random_source, pieces))
+              for _ in range(rounds)]
+    files += files_with_odd_spans(letters, letter_map, limits)
+    # Damaged once, and then some of them again, so that refusals meet.
+    for _ in range(2):
+        files += [damaged(random_source, file) for file in files]
+    for file in files:
+        must_agree("agreement", (case, limits, file),
+                   agreement_by_lookup(file, whole_files, records),
+                   ask_agreement(letters, letter_map, alphabet, limits, file))
+    return len(files)
+
+
+def check_random_files(random_source, rounds):
+    return sum(check_files(random_source, *any_case(
+        random_source, range(10), 3), 6) for _ in range(rounds))
+
+
+# The sheet's letters.
+
+def letter_tests(sheet, place, letter, name):
+    return [(6, place >= len(sheet.letters)),
+            (19, letter not in LETTERS_OF[name]),
+            (7, len(sheet.standing) >= MOST_CHANGES)]
+
+
+def letters_from(opened, standing):
+    """The letters reckoned from the opening and the standing changes."""
+    letters = list(opened)
+    for _, place, _, new in standing:
+        letters[place] = new
+    return letters
+
+
+def check_letter_calls(random_source, case, rounds):
+    """Letter calls among take-backs and put-agains, in long runs so that 64
+    changes come to stand; and the numbers that they were refused with."""
+    letters, map_name, name = case
+    sheet = Sheet(letters, INSPECT_MAPS[map_name], ALPHABETS[name], 1, 1, 0, 0)
+    numbers = set()
+    for index in range(rounds):
+        place = random_source.randrange(len(letters) + 1)
+        letter = random_source.choice(b"ACGTN@\0\xff")
+        wanted = first_fault(letter_tests(sheet, place, letter, name))
+        must_agree("letter call", (case, place, letter), wanted,
+                   number_of(sheet.change_letter, place, letter))
+        numbers.add(wanted)
+        if index % 97 > 90:
+            number_of(random_source.choice([sheet.take_back, sheet.put_again]))
+        must_agree("letters", case, sheet.letters,
+                   letters_from(letters, sheet.standing))
+        # What an opening would refuse would be 24.
+        must_agree("bounds", case, 0, number_of(
+            Sheet, bytes(sheet.letters), sheet.letter_map, sheet.alphabet,
+            *sheet.limits))
+    return numbers
+
+
+def check_random_letter_calls(random_source):
+    numbers = set()
+    for map_name, name, letters, _ in WRITTEN:
+        case = 4 * letters[:1], map_name, name
+        numbers |= check_letter_calls(random_source, case, 200)
+    must_agree("numbers of letter calls", "all cases", numbers, {0, 6, 7, 19})
+
+
+def run():
+    random_source = random.Random(1)
+    check_all_refusals()
+    check_alphabets()
+    spans = sum(check_distances(*small) for small in SMALL_ALPHABETS)
+    count = check_every_small_string()
+    count += check_random_strings(random_source, 600)
+    file_count = check_random_files(random_source, 1500)
+    check_random_letter_calls(random_source)
+    print("self-check: %d spans, %d tilings and %d files agree, and all maps "
+          "with all alphabets" % (spans, count, file_count))
