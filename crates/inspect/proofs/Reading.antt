@@ -12,10 +12,12 @@ use Rattle.lines.specs.declared.Number.the-variants.{Is}
 use Rattle.lines.proofs.Standing.{stands-in}
 use Rattle.lines.proofs.Numbers.{After, after-sound}
 use Rattle.terms.specs.declared.limits.Limits.{Limits}
-use Rattle.inspect.specs.Asking.{Behind, Beyond, Fits}
+use Rattle.inspect.specs.Asking.{Follows, Behind, Beyond, Fits}
 use Rattle.inspect.specs.declared.maps.Map.{Map}
 use Rattle.inspect.specs.declared.asks.Ask.{Ask}
 use Rattle.inspect.specs.declared.asks.Ask.the-variants.{Tiling, Centres, Longest, Longer}
+use Rattle.inspect.specs.declared.named.Letter.{Letter}
+use Rattle.inspect.specs.declared.named.Letter.the-variants.{Is as LetterIs}
 use Rattle.inspect.specs.declared.named.Named.{Named}
 use Rattle.inspect.specs.declared.named.Named.the-variants.{Is as NamedIs, Not as NotNamed}
 use Rattle.inspect.specs.declared.named.Spelt.{Spelt}
@@ -31,7 +33,10 @@ place-in xs i b r e left = stands-in xs i b (sym e ∙ not-false r left)
 pub four-digits : (xs : List ℕ) (i : ℕ) (r : Number) (v n : ℕ) → r ≡ numberAfter xs i → r ≡ Is v n → v ≤ 9999
 four-digits xs i r v n e g = let h = subst (After xs i) (sym e ∙ g) (after-sound xs i) in omega (arith, h .0)
 
--- a place at most one is at most a later one
+-- the place after what is named is the place after its letter
+pub follows-at : (most : ℕ) (r : Letter) (b n : ℕ) → Follows most r → r ≡ LetterIs b n → n ≤ most
+follows-at most r b n p e = subst (Follows most) e p
+
 pub behind-more : (a b : ℕ) (r : Named) → a ≤ b → Behind a r → Behind b r
 behind-more a b (NamedIs map next) h p = omega arith
 behind-more a b NotNamed h p = tt

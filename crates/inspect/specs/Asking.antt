@@ -4,6 +4,8 @@ use Prim.Native.Nat.{ℕ, _+_, _≤_}
 use lib.ListN.{length}
 use Rattle.inspect.specs.declared.asks.Ask.{Ask}
 use Rattle.inspect.specs.declared.asks.Ask.the-variants.{Tiling, Centres, Longest, Longer, Unknown}
+use Rattle.inspect.specs.declared.named.Letter.{Letter}
+use Rattle.inspect.specs.declared.named.Letter.the-variants.{Is as LetterIs, Not as NoLetter}
 use Rattle.inspect.specs.declared.named.Named.{Named}
 use Rattle.inspect.specs.declared.named.Named.the-variants.{Is, Not}
 use Rattle.inspect.specs.declared.named.Spelt.{Spelt}
@@ -11,12 +13,17 @@ use Rattle.inspect.specs.declared.named.Spelt.the-variants.{Is as SpeltI
 use Rattle.inspect.specs.declared.named.Chosen.{Chosen}
 use Rattle.inspect.specs.declared.named.Chosen.the-variants.{Are, Not as NotChosen}
 
--- The place after a map's letter is at most a given one.
+-- The place after a letter is at most a given one.
+abbrev pub Follows : ℕ → Letter → Type 0
+Follows most (LetterIs byte next) = next ≤ most
+Follows most NoLetter = Unit {0}
+
+-- The same after a map's letter.
 abbrev pub Behind : ℕ → Named → Type 0
 Behind most (Is map next) = next ≤ most
 Behind most Not = Unit {0}
 
--- The same after an alphabet's letter, and after both.
+-- After an alphabet's letter, and after both.
 abbrev pub Beyond : ℕ → Spelt → Type 0
 Beyond most (SpeltIs alphabet next) = next ≤ most
 Beyond most NotSpelt = Unit {0}

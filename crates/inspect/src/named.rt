@@ -3,7 +3,30 @@ use crate::alphabets::Alphabet;
 use crate::maps::Map;
 use lines::fields::stands;
 ghost use lib.ListN.{length};
-ghost use Rattle.inspect.specs.Asking.{Behind, Beyond, Past};
+ghost use Rattle.inspect.specs.Asking.{Follows, Behind, Beyond, Past};
+
+// A letter of a line, with the place after it.
+enum Letter {
+    Is { byte: u8, next: usize },
+    Not,
+}
+
+// A space at a place, and the letter behind it.
+fn letter_after(s: &[u8], i: usize) -> Letter
+    ensures { λ r. ⌜ Follows (length (now (s .entry))) r ⌝ }
+{
+    if !stands(s, i, 32) {
+        return Letter::Not;
+    }
+    let at = i + 1;
+    if s.len() <= at {
+        return Letter::Not;
+    }
+    Letter::Is {
+        byte: s[at],
+        next: at + 1,
+    }
+}
 
 // A map named in a line, with the place after its letter.
 pub enum Named {
@@ -44,14 +67,10 @@ fn map_at(letter: u8, next: usize) -> Named
 pub fn map_after(s: &[u8], i: usize) -> Named
     ensures { λ r. ⌜ Behind (length (now (s .entry))) r ⌝ }
 {
-    if !stands(s, i, 32) {
+    let Letter::Is { byte, next } = letter_after(s, i) else {
         return Named::Not;
-    }
-    let at = i + 1;
-    if s.len() <= at {
-        return Named::Not;
-    }
-    map_at(s[at], at + 1)
+    };
+    map_at(byte, next)
 }
 
 // An alphabet named in a line, with the place after its letter.
@@ -97,14 +116,10 @@ fn alphabet_at(letter: u8, next: usize) -> Spelt
 fn alphabet_after(s: &[u8], i: usize) -> Spelt
     ensures { λ r. ⌜ Beyond (length (now (s .entry))) r ⌝ }
 {
-    if !stands(s, i, 32) {
+    let Letter::Is { byte, next } = letter_after(s, i) else {
         return Spelt::Not;
-    }
-    let at = i + 1;
-    if s.len() <= at {
-        return Spelt::Not;
-    }
-    alphabet_at(s[at], at + 1)
+    };
+    alphabet_at(byte, next)
 }
 
 // What a line names beside its string: a map and an alphabet.

@@ -18,17 +18,6 @@ pub fn string_refusal(s: &[u8], map: &[u8]) -> usize
     maps::refusal(map)
 }
 
-// The same with an alphabet.
-pub fn refusal(s: &[u8], map: &[u8], alphabet: &[u8]) -> usize
-    ensures { λ r. ⌜ r ≡ firstFault (textFaults (text (now (s .entry)) (now (map .entry)) (now (alphabet .entry)))) ⌝ }
-{
-    let number = string_refusal(s, map);
-    if number != 0 {
-        return number;
-    }
-    flags::refusal(s, map, alphabet)
-}
-
 // The same for two strings with one map: either too long counts.
 pub fn pair_refusal(s: &[u8], t: &[u8], map: &[u8]) -> usize
     ensures { λ r. ⌜ r ≡ firstFault (pairFaults (now (s .entry)) (now (t .entry)) (now (map .entry))) ⌝ }
@@ -37,6 +26,17 @@ pub fn pair_refusal(s: &[u8], t: &[u8], map: &[u8]) -> usize
         return 1;
     }
     string_refusal(s, map)
+}
+
+// The first refusal that a string, a map and an alphabet meet.
+pub fn refusal(s: &[u8], map: &[u8], alphabet: &[u8]) -> usize
+    ensures { λ r. ⌜ r ≡ firstFault (textFaults (text (now (s .entry)) (now (map .entry)) (now (alphabet .entry)))) ⌝ }
+{
+    let number = string_refusal(s, map);
+    if number != 0 {
+        return number;
+    }
+    flags::refusal(s, map, alphabet)
 }
 
 // The first refusal that an opening meets, 0 where it meets none.
