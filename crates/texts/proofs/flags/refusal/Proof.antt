@@ -1,4 +1,4 @@
--- `alphabets::refusal` meets its contract. Assumes nothing.
+-- `flags::refusal` meets its contract. Assumes nothing.
 use mathlib.Core.Path.{sym, _∙_}
 use borrow.Author.Tests.{eq-eqb, ne-eqb, not-true, not-false}
 use Rattle.terms.specs.Refusals.{firstFault}
