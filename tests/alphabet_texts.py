@@ -438,7 +438,8 @@ ALPHABET_LINES = [
         (b"Y 1 1 0 0 C D  " + b"A" * 1026, "! 13")]),
 ]
 
-# The examples of docs/INSPECT.md, each line with what it prints.
+# The examples of docs/INSPECT.md, each line with what it prints. Those with D
+# are in stop_texts.py.
 INSPECT_EXAMPLES = [
     ("examples", [
         (b"T 1 2 1 0 I * 8 12 AC",

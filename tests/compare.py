@@ -6,7 +6,7 @@
 
 Each COMMAND runs a program under test on standard input and output. Seeded
 scripts are sent to it, and each reply is compared byte for byte with that of
-tests/second.py; where 01, requests L1 and L2 or their readings settle the
+tests/second.py; where 01, requests L1, L2 and L3 or their readings settle the
 answer, also with a text written by hand. Scripts over maps and alphabets have
 to show all that can come of them. --long does ten times as much. --spoil flips
 one byte of each program's output, to show that the comparison can fail. The
@@ -28,6 +28,7 @@ import time
 sys.dont_write_bytecode = True
 import alphabets  # noqa: E402
 import second  # noqa: E402
+import stops  # noqa: E402
 from alphabet_texts import (  # noqa: E402
     ALPHABET_LINES, ALPHABET_READINGS, CALLS_WITH_ALL_BYTES, INSPECT_EXAMPLES)
 from damage import RECORD, RETURN_WAYS, Returned  # noqa: E402
@@ -36,6 +37,9 @@ from drawing import (  # noqa: E402
     parts_given, random_word, room_near, table_entries, tiling_question,
     usual_limits)
 from selfcheck import small_strings  # noqa: E402
+from stop_texts import (  # noqa: E402
+    CALLS_WITHOUT_STOPS, STOP_EXAMPLES, STOP_LINES, STOP_READINGS,
+    STOP_REFUSALS)
 from texts import (  # noqa: E402
     AGREEMENT_LINES, AGREEMENT_READINGS, EXAMPLE_12, EXAMPLE_12_START,
     EXAMPLE_INPUT, EXAMPLE_OUTPUT, LINE_READINGS, READER_READINGS,
@@ -673,10 +677,11 @@ def call_scripts(seed, times):
     yield from arrival_scripts(
         seed, lambda s: random_call(s, 150, SHORT_LENGTHS))
     yield from hand_scripts("L2 reading", CALLS_WITH_ALL_BYTES)
+    yield from hand_scripts("L3 reading", CALLS_WITHOUT_STOPS)
 
 
 # Lines and groups of scripts for the inspect program. Those over alphabets are
-# in alphabets.py; the alphabet of all others is all 256 bytes.
+# in alphabets.py and stops.py; the alphabet of all others is all 256 bytes.
 
 def any_inspect_map(source):
     return source.choice([b"I", b"C", b"I", b"C", b"I", b"C", b"S", b"X"])
@@ -748,7 +753,8 @@ def agreement_line(source, string):
 
 
 INSPECT_SORTS = [tiling_line, tiling_line, centres_line, longest_line,
-                 longer_line, step_line, agreement_line, agreement_line]
+                 longer_line, step_line, agreement_line, agreement_line,
+                 stops.any_stop_line]
 
 
 def inspection_lines(source, line_count, lengths):
@@ -885,9 +891,9 @@ def returns(source, drawn_case, count):
     return lines
 
 
-def misheard_alphabets(source):
+def misheard_sample(source, lines_from):
     """Some of the lines over all maps and alphabets, each misheard."""
-    lines = source.sample(alphabets.lines_over_all_pairs(source), 150)
+    lines = source.sample(lines_from(source), 150)
     return [misheard(source, line) for line in lines]
 
 
@@ -899,12 +905,26 @@ def alphabet_scripts(seed, times):
                     find_faults=alphabets.find_faults)
     yield from many(seed, "L2 readings 3, 4 and 8: returned files", 4 * times,
                     lambda s: alphabets.returned_lines(s, 6))
-    yield from many(seed, "L2: misheard lines", 2 * times, misheard_alphabets)
+    yield from many(
+        seed, "L2: misheard lines", 2 * times,
+        lambda s: misheard_sample(s, alphabets.lines_over_all_pairs))
+
+
+def stop_scripts(seed, times):
+    """The numbers are those of the readings of 02, L3."""
+    yield from hand_scripts(
+        "L3 reading", STOP_READINGS + STOP_REFUSALS + STOP_LINES)
+    yield from many(seed, "L3 readings 1 to 6: every centre", 3 * times,
+                    stops.every_centre_lines, find_faults=stops.find_faults)
+    yield from many(seed, "L3 readings 1 to 6: long strings", 3 * times,
+                    stops.long_lines, find_faults=stops.find_long_faults)
+    yield from many(seed, "L3: misheard lines", 2 * times,
+                    lambda s: misheard_sample(s, stops.every_centre_lines))
 
 
 def inspect_scripts(seed, times):
     """All scripts for the inspect program."""
-    yield from hand_scripts("INSPECT.md", INSPECT_EXAMPLES)
+    yield from hand_scripts("INSPECT.md", INSPECT_EXAMPLES + STOP_EXAMPLES)
     yield from hand_scripts("read-back sheet", READ_BACK_INSPECTIONS)
     yield from hand_scripts(
         "L1 reading", READER_READINGS + AGREEMENT_READINGS + AGREEMENT_LINES)
@@ -930,6 +950,7 @@ def inspect_scripts(seed, times):
     yield from arrival_scripts(
         seed, lambda s: inspection_lines(s, 80, SHORT_LENGTHS))
     yield from alphabet_scripts(seed, times)
+    yield from stop_scripts(seed, times)
 
 
 def parsed_arguments():

@@ -1,9 +1,9 @@
 #!/usr/bin/env python3
 """An independent second program for the call program and for inspection.
 
-Written from the build description (01), from requests L1 and L2 (02) and from
-how docs/DECISIONS.md reads them, by the definitions, so that it shares no code
-with the program that it is compared with.
+Written from the build description (01), from requests L1, L2 and L3 (02) and
+from how docs/DECISIONS.md reads them, by the definitions, so that it shares no
+code with the program that it is compared with.
 
     python3 tests/second.py call        answers the call program's lines
     python3 tests/second.py inspect     answers the inspect lines
@@ -32,6 +32,9 @@ BRUTE_TILINGS = 2500
 
 PIECE = "P"
 GAP = "G"
+
+# What stops the palindrome of a centre.
+PAIR_BLOCKS, END_MET, BARRED = 1, 2, 3
 
 PLAIN_MAP = bytes(range(256))
 COMPLEMENT_MAP = PLAIN_MAP.translate(bytes.maketrans(b"ATCG", b"TAGC"))
@@ -146,6 +149,19 @@ def maximal_lengths(letters, letter_map, alphabet, d):
 
 def start_of_span(centre, length):
     return (centre + 1 - length) // 2
+
+
+def stop(letters, letter_map, alphabet, centre, d):
+    """What stops the palindrome of a centre: the case, and both places of the
+    pair that blocks, else zeros. Counts the errors of whole spans, so that it
+    doesn't rest on the walk that gives the length."""
+    if centre % 2 == 0 and not has_own_partner(letter_map, alphabet):
+        return BARRED, 0, 0
+    # Each pair outward is the ends of a span; a middle letter is both ends.
+    for start, length in reversed(list(spans_at_centre(letters, centre))):
+        if error_count(letters[start:start + length], letter_map) > d:
+            return PAIR_BLOCKS, start, start + length - 1
+    return END_MET, 0, 0
 
 
 # Brute force over all tilings. A part is (sort, start, length, errors).
@@ -704,10 +720,16 @@ def inspect_tiling(fields):
         + room_line("E", table) + room_line("R", room)
 
 
-def ask_centres(letters, letter_map, alphabet, d, lent):
+def refuse_centres(letters, letter_map, alphabet, d):
+    """What the fill and the question for one centre test first: of 5 the part
+    on d alone."""
     refuse_spelling(letters, letter_map, alphabet)
     if d > MOST_ERRORS:
         raise Refusal(5)
+
+
+def ask_centres(letters, letter_map, alphabet, d, lent):
+    refuse_centres(letters, letter_map, alphabet, d)
     lengths = maximal_lengths(letters, letter_map, alphabet, d)
     if len(lent) < len(lengths):
         raise Refusal(11)
@@ -715,17 +737,43 @@ def ask_centres(letters, letter_map, alphabet, d, lent):
     return len(lengths)
 
 
-def inspect_centres(fields):
-    _, d, map_name, alphabet_name, entries, string = fields
+def ask_stop(letters, letter_map, alphabet, d, centre):
+    """Length, case and two places for one centre. No letters, no centres."""
+    refuse_centres(letters, letter_map, alphabet, d)
+    if centre >= 2 * len(letters) - 1:
+        raise Refusal(6)
+    question = letters, letter_map, alphabet, centre, d
+    return (maximal_length(*question),) + stop(*question)
+
+
+def centres_named(fields):
+    """What C and D name: string, map, alphabet and d, and a number beside
+    them."""
+    _, d, map_name, alphabet_name, number, string = fields
     d = number_from(d)
     letter_map = named_by(map_name, INSPECT_MAPS)
     alphabet = named_by(alphabet_name, ALPHABETS)
-    lent = [LENT_FILL] * number_from(entries)
+    return (string, letter_map, alphabet, d), number_from(number)
+
+
+def inspect_centres(fields):
+    question, entries = centres_named(fields)
+    lent = [LENT_FILL] * entries
     try:
-        reply = 0, ask_centres(string, letter_map, alphabet, d, lent)
+        reply = 0, ask_centres(*question, lent)
     except Refusal as refusal:
         reply = refusal.number, 0
     return line_of("C", *reply) + room_line("E", lent)
+
+
+def inspect_stop(fields):
+    """D asks for one centre and what stops its palindrome."""
+    question, centre = centres_named(fields)
+    try:
+        reply = (0,) + ask_stop(*question, centre)
+    except Refusal as refusal:
+        reply = refusal.number, 0, 0, 0, 0
+    return line_of("D", *reply)
 
 
 def longest_palindrome_by_definition(letters, letter_map):
@@ -816,6 +864,7 @@ INSPECT_LINES = {
     b"T": (10, inspect_tiling),
     b"S": (10, inspect_tiling),
     b"C": (6, inspect_centres),
+    b"D": (6, inspect_stop),
     b"P": (3, inspect_longest),
     b"W": (4, inspect_longer),
     b"F": (3, inspect_step),

@@ -2,7 +2,8 @@
 for every map and alphabet that an opening accepts. A part file is judged to be
 a permitted tiling exactly when it is the file of one of all permitted tilings,
 and a span is a d-palindrome exactly when some exact palindrome over the
-alphabet differs from it in at most d places.
+alphabet differs from it in at most d places. What stops a palindrome goes with
+its length, and letters farther out change neither.
 
     python3 tests/second.py self-check
 """
@@ -12,13 +13,14 @@ import random
 import sys
 
 from second import (
-    ALPHABETS, BRUTE_TILINGS, BYTES_A_PART, GAP, INSPECT_MAPS, MOST_CHANGES,
-    NO_TILING, Refusal, Sheet, all_tilings, alphabet_of, ask_agreement,
-    ask_centres, error_count, exact_lengths, gap_total, has_own_partner,
-    is_d_palindrome, is_exact_palindrome, longest_palindrome,
-    longest_palindrome_by_definition, maximal_length_by_definition,
-    maximal_lengths, pieces_by_definition, read_part, record_of, records_of,
-    tile_by_brute_force, tile_by_table)
+    ALPHABETS, BARRED, BRUTE_TILINGS, BYTES_A_PART, END_MET, GAP, INSPECT_MAPS,
+    MOST_CHANGES, NO_TILING, PAIR_BLOCKS, Refusal, Sheet, all_tilings,
+    alphabet_of, ask_agreement, ask_centres, ask_stop, error_count,
+    exact_lengths, gap_total, has_own_partner, is_d_palindrome,
+    is_exact_palindrome, longest_palindrome, longest_palindrome_by_definition,
+    maximal_length, maximal_length_by_definition, maximal_lengths,
+    pieces_by_definition, read_part, record_of, records_of, start_of_span,
+    stop, tile_by_brute_force, tile_by_table)
 
 # By hand from the descriptions of maps and alphabets: the letters of each
 # alphabet, the alphabets that a map closes, and those among them with a letter
@@ -98,8 +100,8 @@ def limit_tests(kind, m, g, d):
 
 
 def check_refusals(letters, map_name, name, limits):
-    """Opening, fill and second question, the last two with too little or
-    with a file that is cut."""
+    """Opening, fill, one centre and second question; the fill with too little
+    and the second question with a file that is cut."""
     case = letters[:10], map_name, name, limits
     spelt = letters, INSPECT_MAPS[map_name], ALPHABETS[name]
     spelling = spelling_tests(letters, map_name, name)
@@ -109,6 +111,11 @@ def check_refusals(letters, map_name, name, limits):
     must_agree("fill", case, first_fault(
         spelling + [(5, limits[3] > 15), (11, len(letters) > 0)]),
         number_of(ask_centres, *spelt, limits[3], []))
+    centres = range(2 * len(letters) - 1)
+    for centre in (0, 1, len(centres), 9999):
+        must_agree("one centre", (case, centre), first_fault(
+            spelling + [(5, limits[3] > 15), (6, centre not in centres)]),
+            number_of(ask_stop, *spelt, limits[3], centre))
     must_agree("second question", case, first_fault(opening + [(15, True)]),
                ask_agreement(*spelt, limits, b"P"))
 
@@ -197,6 +204,120 @@ def check_palindromes(case):
     # their middle letter would be an own partner in the alphabet.
     must_agree("exact", case, exact_lengths(letters, letter_map),
                maximal_lengths(letters, letter_map, alphabet, 0))
+
+
+# What stops a palindrome.
+
+def pairs_outward(count, centre):
+    """The pairs of places of a centre inside so many letters; where there is
+    a middle letter, its place with itself comes first."""
+    left, right = centre // 2, centre - centre // 2
+    while left >= 0 and right < count:
+        yield left, right
+        left, right = left - 1, right + 1
+
+
+def stop_by_wrong_pairs(case, centre, d):
+    """Of the pairs that are no partners d pass, and the next one blocks."""
+    letters, map_name, name = case
+    if centre % 2 == 0 and name not in WITH_OWN_PARTNER[map_name]:
+        return BARRED, 0, 0
+    letter_map = INSPECT_MAPS[map_name]
+    wrong = [(left, right)
+             for left, right in pairs_outward(len(letters), centre)
+             if letter_map[letters[left]] != letters[right]]
+    return (PAIR_BLOCKS,) + wrong[d] if len(wrong) > d else (END_MET, 0, 0)
+
+
+def broken_laws(letters, letter_map, centre, d, answer):
+    """What an answer (length, case, left, right) of a right question says that
+    can't be: laws that hold however it is found. Where a pair blocks, all d
+    errors are inside it."""
+    length, case, left, right = answer
+    if case == PAIR_BLOCKS and not 0 <= left <= right < len(letters):
+        return ["a pair inside the string"]
+    first = start_of_span(centre, length)
+    span = letters[first:first + length]
+    errors = error_count(span, letter_map) if span else 0
+    if case == PAIR_BLOCKS:
+        laws = [
+            ("a pair of the centre", left + right == centre),
+            ("the length of what is inside", length == right - left - 1
+             or length == 0 and left == right),
+            ("a pair of no partners",
+             letters[left] != letter_map[letters[right]]),
+            ("d errors inside", errors == d)]
+    elif case == END_MET:
+        laws = [
+            ("no places", (left, right) == (0, 0)),
+            ("a span with the first or the last letter", length > 0
+             and (first == 0 or first + length == len(letters))),
+            ("at most d errors", errors <= d)]
+    else:
+        laws = [
+            ("a known case", case == BARRED),
+            ("zeros", (length, left, right) == (0, 0, 0)),
+            ("a middle letter", centre % 2 == 0)]
+    return [name for name, holds in laws if not holds]
+
+
+def with_other_letter_outside(random_source, case, centre, answer):
+    """Another letter of the alphabet, outside the span and the pair; None
+    where every place is inside."""
+    letters, _, name = case
+    length, stopped_by, left, right = answer
+    first = start_of_span(centre, length)
+    inside = set(range(first, first + length))
+    if stopped_by == PAIR_BLOCKS:
+        inside |= {left, right}
+    places = [k for k in range(len(letters)) if k not in inside]
+    if not places:
+        return None
+    place = random_source.choice(places)
+    other = random_source.choice(
+        [x for x in LETTERS_OF[name] if x != letters[place]])
+    return letters[:place] + bytes([other]) + letters[place + 1:]
+
+
+def answer_at(letters, map_name, name, centre, d):
+    question = letters, INSPECT_MAPS[map_name], ALPHABETS[name], centre, d
+    return (maximal_length(*question),) + stop(*question)
+
+
+def check_stop(random_source, case, centre, d):
+    """Both ways to the stop, the laws of the answer, and the local law: what
+    is farther out changes nothing. Gives the case where a letter is farther
+    out, else None."""
+    letters, map_name, name = case
+    answer = answer_at(*case, centre, d)
+    must_agree("stop", (case, centre, d), answer[1:],
+               stop_by_wrong_pairs(case, centre, d))
+    must_agree("laws of a stop", (case, centre, d), [], broken_laws(
+        letters, INSPECT_MAPS[map_name], centre, d, answer))
+    changed = with_other_letter_outside(random_source, case, centre, answer)
+    if changed is None:
+        return None
+    must_agree("local law", (case, centre, d, changed), answer,
+               answer_at(changed, map_name, name, centre, d))
+    return answer[1]
+
+
+def check_all_stops(random_source, rounds):
+    """Every centre of all small strings, and of so many longer ones."""
+    cases = [(string, map_name, name)
+             for map_name, name, letters, most in WRITTEN
+             for string in small_strings(letters, most)]
+    cases += [any_case(random_source, range(7, 41), 1)[0]
+              for _ in range(rounds)]
+    count, seen = 0, set()
+    for case in cases:
+        centres = range(2 * len(case[0]) - 1)
+        for question in itertools.product(centres, (0, 1, 2, 5, 15)):
+            seen.add(check_stop(random_source, case, *question))
+            count += 1
+    must_agree("cases of stops", "all strings", seen,
+               {PAIR_BLOCKS, END_MET, BARRED, None})
+    return count
 
 
 def check_every_small_string():
@@ -385,5 +506,6 @@ def run():
     count += check_random_strings(random_source, 600)
     file_count = check_random_files(random_source, 1500)
     check_random_letter_calls(random_source)
-    print("self-check: %d spans, %d tilings and %d files agree, and all maps "
-          "with all alphabets" % (spans, count, file_count))
+    stops = check_all_stops(random_source, 100)
+    print("self-check: %d spans, %d tilings, %d files and %d stops agree, and "
+          "all maps with all alphabets" % (spans, count, file_count, stops))

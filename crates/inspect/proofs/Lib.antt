@@ -1,3 +1,4 @@
 pub mod Reading
 pub mod Lending
 pub mod Stepping
+pub mod Showing

@@ -4,6 +4,8 @@ use Prim.Native.Nat.{ℕ}
 use lib.ListN.{length}
 use Rattle.questions.specs.declared.Answer.{Answer}
 use Rattle.spans.specs.declared.CentreCount.{CentreCount}
+use Rattle.stops.specs.Centre.{replyValues}
+use Rattle.stops.specs.declared.CentreStop.{CentreStop}
 use Rattle.printing.specs.Printing.{printed}
 use Rattle.reader.specs.Reader.{stepNumber, stepValues}
 use Rattle.reader.specs.declared.Stepped.{Stepped}
@@ -17,6 +19,10 @@ tilingText letter a table room =
 -- `C` with the fill's numbers, `E` with the entries.
 abbrev pub centresText : CentreCount → List ℕ → List ℕ
 centresText found entries = printed 67 (found .number ∷ found .count ∷ []) ++ printed 69 entries
+
+-- `D` with the number and the values of the reply.
+abbrev pub stopText : CentreStop → List ℕ
+stopText found = printed 68 (found .number ∷ replyValues found)
 
 -- `P` or `W` with the refusal and the part's length, `R` with the part.
 abbrev pub partText : ℕ → ℕ → List ℕ → List ℕ

@@ -10,6 +10,7 @@ use crate::maps::size_of;
 use crate::named::Letters;
 use crate::shows::put_centres;
 use crate::shows::put_part;
+use crate::shows::put_stop;
 use crate::shows::put_tiling;
 use longest::longer;
 use longest::longer_refusal;
@@ -20,6 +21,7 @@ use replies::number_of;
 use replies::put_refusal;
 use sheet::Sheet;
 use spans::fill_centres;
+use stops::centre_stop;
 use terms::limits::Limits;
 ghost use mathlib.Core.Path.{_≡_};
 ghost use Prim.Native.Nat.{_≤_};
@@ -145,6 +147,20 @@ fn centres(d: usize, letters: Letters, string: &[u8], entries: &mut [u16], out: 
     put_centres(out, found, entries)
 }
 
+// `D`: the maximal length of one centre, and what stops it.
+fn one_centre(d: usize, letters: Letters, string: &[u8], centre: usize, out: &mut [u8]) -> usize
+    ensures { λ r. ⌜ r ≤ length (now (out .entry)) ⌝ }
+{
+    let map = letters.map;
+    let bytes = bytes_of(map);
+    let size = size_of(map);
+    let alphabet = letters.alphabet;
+    let flags = flags_of(alphabet);
+    let count = count_of(alphabet);
+    let found = centre_stop(string, &bytes[0..size], d, centre, &flags[0..count]);
+    put_stop(out, found)
+}
+
 // `P`: the longest palindrome of one string.
 fn of_one(map: Map, string: &[u8], out: &mut [u8]) -> usize
     ensures { λ r. ⌜ r ≤ length (now (out .entry)) ⌝ }
@@ -200,6 +216,12 @@ pub fn answer(line: &[u8], table: &mut [u16], room: &mut [u8], out: &mut [u8]) -
             let second = from + first;
             of_two(map, &line[from..second], &line[second..n], out)
         }
+        Ask::Centre {
+            d,
+            letters,
+            centre,
+            from,
+        } => one_centre(d, letters, &line[from..n], centre, out),
         Ask::Unknown => answer_file(line, room, out),
     }
 }

@@ -1,4 +1,4 @@
-// One line read: what it asks of the tiling question, the fill or the longest palindromes. Unknown is any other line: `files` has those.
+// One line read: what it asks of the tiling question, the fill, one centre or the longest palindromes. Unknown is any other line: `files` has those.
 use crate::maps::Map;
 use crate::named::Chosen;
 use crate::named::Letters;
@@ -37,6 +37,12 @@ pub enum Ask {
     Longer {
         map: Map,
         first: usize,
+        from: usize,
+    },
+    Centre {
+        d: usize,
+        letters: Letters,
+        centre: usize,
         from: usize,
     },
     Unknown,
@@ -79,8 +85,8 @@ fn tiling_line(s: &[u8], on_sheet: bool) -> Ask
     }
 }
 
-// `C d map alphabet entries string`
-fn centres_line(s: &[u8]) -> Ask
+// `C d map alphabet entries string`, and `D d map alphabet centre string`
+fn centres_line(s: &[u8], one: bool) -> Ask
     ensures { λ r. ⌜ Fits (now (s .entry)) r ⌝ }
 {
     let Number::Is { value: d, next: a } = number_after(s, 1) else {
@@ -90,7 +96,7 @@ fn centres_line(s: &[u8]) -> Ask
         return Ask::Unknown;
     };
     let Number::Is {
-        value: entries,
+        value: number,
         next: c,
     } = number_after(s, b)
     else {
@@ -99,11 +105,20 @@ fn centres_line(s: &[u8]) -> Ask
     if !stands(s, c, 32) {
         return Ask::Unknown;
     }
+    let from = c + 1;
+    if one {
+        return Ask::Centre {
+            d,
+            letters,
+            centre: number,
+            from,
+        };
+    }
     Ask::Centres {
         d,
         letters,
-        entries,
-        from: c + 1,
+        entries: number,
+        from,
     }
 }
 
@@ -161,7 +176,10 @@ pub fn read(s: &[u8]) -> Ask
         return tiling_line(s, true);
     }
     if stands(s, 0, b'C') {
-        return centres_line(s);
+        return centres_line(s, false);
+    }
+    if stands(s, 0, b'D') {
+        return centres_line(s, true);
     }
     if stands(s, 0, b'P') {
         return longest_line(s);

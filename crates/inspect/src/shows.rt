@@ -4,8 +4,10 @@ use printing::put_field;
 use printing::put_line;
 use questions::Answer;
 use spans::CentreCount;
+use stops::CentreStop;
+use stops::figures;
 ghost use Rattle.printing.specs.Printing.{printed, Put};
-ghost use Rattle.inspect.specs.Showing.{tilingText, centresText, partText};
+ghost use Rattle.inspect.specs.Showing.{tilingText, centresText, stopText, partText};
 
 // `E` and all entries of a slice.
 fn put_entries(out: &mut [u8], at: usize, entries: &[u16]) -> usize
@@ -50,6 +52,15 @@ pub fn put_centres(out: &mut [u8], found: CentreCount, entries: &[u16]) -> usize
     let numbers = [found.number, found.count];
     let first = put_line(out, 0, b'C', &numbers);
     put_entries(out, first, entries)
+}
+
+// What is answered of one centre, in numbers.
+pub fn put_stop(out: &mut [u8], found: CentreStop) -> usize
+    ensures { λ r. ⌜ Put (now (out .entry)) 0 (stopText found) r (now (out .exit)) ⌝ }
+{
+    let told = figures(found);
+    let numbers = [told.number, told.length, told.case, told.left, told.right];
+    put_line(out, 0, b'D', &numbers)
 }
 
 // A refusal's number or 0, and the part handed over.

@@ -1,5 +1,5 @@
--- Where a walk outward from a centre may stop, and what the maximal length then is. Assumes nothing.
-use mathlib.Core.Path.{_≡_, refl, sym, ap, _∙_, subst}
+-- Where a walk outward from a centre may stop, what the maximal length then is, and what stops it. Assumes nothing.
+use mathlib.Core.Path.{_≡_, refl, sym, ap, ap₂, _∙_, subst}
 use mathlib.Core.Logic.{_⊎_, inl, inr, ⊎-elim}
 use mathlib.Core.Bool.{Bool, true, false, not, _&&_}
 use mathlib.Core.List.{List}
@@ -15,7 +15,10 @@ use Rattle.terms.specs.Alphabets.{ownPartner}
 use Rattle.terms.specs.Texts.{Text, text, size}
 use Rattle.terms.specs.Passed.{EverySound}
 use Rattle.spans.specs.Palindromes.{errorCount, one, differs, DPalindrome, centre, centres, MaximalLength}
+use Rattle.spans.specs.Stops.{Bars, Blocks, Stops}
 use Rattle.spans.specs.Work.{Own, Unbarred}
+use Rattle.spans.specs.declared.outward.Stop.{Stop}
+use Rattle.spans.specs.declared.outward.Stop.the-variants.{Pair, End, Barred}
 use Rattle.spans.proofs.Counting.{from, from-mono, from-step, errors-none}
 
 module _ (x : Text) (d c a : ℕ) (mid : a + a ≤ c + 2) (inside : c + 1 ≤ a + size x) (few : from (x .letters) (x .map) c a ≤ d)
@@ -64,19 +67,33 @@ barred x d c e n = record { attained = inl refl; longest = λ b M p h. absurd (f
     odd-at : (b M : ℕ) → 1 ≤ M → centre b M ≡ c → M % 2 ≡ 1
     odd-at b M some h = omega arith
 
+-- What is known of a centre that is not barred is known where `own` tells so.
+walked-free : (s f : List ℕ) (c : ℕ) (B : Text → Type 0) (own : Bool) → (not own && eqb (c % 2) 0) ≡ false → EverySound s f (Unbarred c) B → EverySound s f (Own own) B
+walked-free s f c B true h u = λ z k e. u z k (λ b. sym e)
+walked-free s f c B false h u = λ z k e. u z k (λ b. absurd (eqb-false (c % 2) 0 h b))
+
 -- What the walk of a centre answers: where it is barred, and where it is not.
 module _ (s f : List ℕ) (d c : ℕ) where
-  pub walked-barred : (own : Bool) → (not own && eqb (c % 2) 0) ≡ true → EverySound s f (Own own) (λ x. MaximalLength x d c 0)
-  walked-barred true h = absurd (false-true (sym h))
-  walked-barred false h = λ z k e. barred (text s f z) d c (eqb-true (c % 2) 0 h) (sym e)
+  abbrev Answers : (Text → Type 0) → ℕ → Stop → Type 0
+  Answers A r stop = EverySound s f A (λ x. MaximalLength x d c r) × EverySound s f A (λ x. Stops x d c stop)
 
-  pub walked-out : (own : Bool) → (not own && eqb (c % 2) 0) ≡ false → (r : ℕ) → EverySound s f (Unbarred c) (λ x. MaximalLength x d c r) → EverySound s f (Own own) (λ x. MaximalLength x d c r)
-  walked-out true h r u = λ z k e. u z k (λ b. sym e)
-  walked-out false h r u = λ z k e. u z k (λ b. absurd (eqb-false (c % 2) 0 h b))
+  pub walked-barred : (own : Bool) → (not own && eqb (c % 2) 0) ≡ true → Answers (Own own) 0 Barred
+  walked-barred true h = absurd (false-true (sym h))
+  walked-barred false h = let even : c % 2 ≡ 0 = eqb-true (c % 2) 0 h in (λ z k e. barred (text s f z) d c even (sym e), λ z k e. (even, sym e))
+
+  pub walked-out : (own : Bool) → (not own && eqb (c % 2) 0) ≡ false → (r : ℕ) (stop : Stop) → Answers (Unbarred c) r stop → Answers (Own own) r stop
+  walked-out own h r stop u = (walked-free s f c (λ x. MaximalLength x d c r) own h (u .0), walked-free s f c (λ x. Stops x d c stop) own h (u .1))
+
+not-barred : (x : Text) (c : ℕ) → Unbarred c x → Bars x c → ⊥
+not-barred x c u b = false-true (sym (u (b .0)) ∙ b .1)
 
 -- How far a walk outward reached: the maximal length, with every alphabet that does not bar the centre.
 abbrev pub Reaches : List ℕ → List ℕ → ℕ → ℕ → ℕ → Type 0
 Reaches s f d c r = (z : List ℕ) → Unbarred c (text s f z) → MaximalLength (text s f z) d c r
+
+-- What stops it there.
+abbrev StopsAt : List ℕ → List ℕ → ℕ → ℕ → Stop → Type 0
+StopsAt s f d c stop = (z : List ℕ) → Unbarred c (text s f z) → Stops (text s f z) d c stop
 
 -- A walk outward: the span from a is inside the string, or has no letter yet, and has e errors, at most d.
 pub record Walk (s f : List ℕ) (d c a e : ℕ) : Type 0 where
@@ -125,3 +142,38 @@ module _ (s f : List ℕ) (d c a e : ℕ) (w : Walk s f d c a e) where
       let n : from s f c (a - 1) ≡ one (differs s f (a - 1) (c - (a - 1))) + e = next p in
       let k : d < from s f c (a - 1) = omega arith in
       subst (λ (j : ℕ). d < from s f c j) (sym g) k))
+
+  -- every span of the centre from a on has at most d errors
+  few-within : (b M : ℕ) → 1 ≤ M → centre b M ≡ c → a ≤ b → errorCount s f b M ≤ d
+  few-within b M some at l =
+      let fw : from s f c a ≤ d = rw w.count (w .few) in
+      let k : from s f c (a + (b - a)) ≤ from s f c a = from-mono s f c a (b - a) (omega arith) in
+      let p : from s f c (a + (b - a)) ≡ errorCount s f b M = ap₂ (errorCount s f) (omega arith) (omega arith) in
+      omega arith
+
+  -- what stops the walk there: an end, where every span inside the string begins at a or later, and the pair past a
+  ends : ((b M : ℕ) → 1 ≤ M → b + M ≤ length s → centre b M ≡ c → a ≤ b) → (stop : Stop) → stop ≡ End → StopsAt s f d c stop
+  ends h stop q = λ z u. subst (Stops (text s f z) d c) (sym q) (not-barred (text s f z) c u, λ b M some i at. few-within b M some at (h b M some i at))
+
+  pub ends-start : a ≤ 0 → (stop : Stop) → stop ≡ End → StopsAt s f d c stop
+  ends-start h = ends (λ b M some i at. omega arith)
+
+  pub ends-end : 0 < a → length s ≤ c - (a - 1) → (stop : Stop) → stop ≡ End → StopsAt s f d c stop
+  ends-end p l = let m : a + a ≤ c + 2 = w .mid in ends (λ b M some i at. omega arith)
+
+  pub blocks-over : (v : ℕ) → 0 < a → c - (a - 1) < length s → v ≡ one (differs s f (a - 1) (c - (a - 1))) → d < e + v → (stop : Stop) → stop ≡ Pair (a - 1) (c - (a - 1)) → StopsAt s f d c stop
+  blocks-over v p i q l stop r =
+      let m : a + a ≤ c + 2 = w .mid in
+      let n : from s f c (a - 1) ≡ one (differs s f (a - 1) (c - (a - 1))) + e = next p in
+      let k : d < from s f c (a - 1) = omega arith in
+      let j : c + 1 - (a - 1 + (a - 1)) ≡ c - (a - 1) + 1 - (a - 1) = omega arith in
+      let b : (z : List ℕ) → Blocks (text s f z) d c (a - 1) (c - (a - 1)) = λ z.
+      record {
+        pair = omega arith;
+        order = omega arith;
+        inside = i;
+        over = subst (λ (L : ℕ). d < errorCount s f (a - 1) L) j k;
+        first = λ b M some at g. few-within b M some at (omega arith);
+      }
+      in
+      λ z u. subst (Stops (text s f z) d c) (sym r) (not-barred (text s f z) c u, b z)

@@ -21,6 +21,10 @@ pub record Lengths (x : Text) (d : ℕ) (before after : List ℕ) : Type 0 where
   pub filled : Holds x d after
   pub stay : (k : ℕ) → centres (size x) ≤ k → getD after k 0 ≡ getD before k 0
 
+-- Refusals 1, 2, 3, 18, 19, and of 5 only the part on d: those of the fill but 11 (02, L3).
+unfoldable pub walkFaults : Text → ℕ → List (ℕ × Bool)
+walkFaults x d = textFaults x ++ (5, tooManyErrors d) ∷ []
+
 -- Refusals 1, 2, 3, 18, 19, of 5 only the part on d, then 11 where fewer entries are lent than centres.
 unfoldable pub centresFaults : Text → ℕ → ℕ → List (ℕ × Bool)
 centresFaults x d lent = textFaults x ++ (5, tooManyErrors d) ∷ (11, ltb lent (centres (size x))) ∷ []

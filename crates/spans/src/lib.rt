@@ -12,10 +12,10 @@ ghost use Rattle.terms.specs.Refusals.{firstFault};
 ghost use Rattle.terms.specs.Texts.{text};
 ghost use Rattle.terms.specs.Passed.{SoundText};
 ghost use Rattle.spans.specs.Palindromes.{centres};
-ghost use Rattle.spans.specs.Centres.{Lengths, centresFaults, CentresReply};
+ghost use Rattle.spans.specs.Centres.{Lengths, walkFaults, centresFaults, CentresReply};
 
 // The number of centres of n letters.
-fn centre_count(n: usize) -> usize
+pub fn centre_count(n: usize) -> usize
     requires { ⌜ n ≤ 1000 ⌝ }
     ensures { λ r. ⌜ r ≡ centres n ⌝ }
 {
@@ -38,9 +38,9 @@ pub fn fill_lengths(s: &[u8], map: &[u8], d: usize, out: &mut [u16], alphabet: &
     }
 }
 
-// The first refusal of the fill of the centres into `lent` entries, 0 where there is none.
-fn centres_refusal(s: &[u8], map: &[u8], d: usize, lent: usize, alphabet: &[u8]) -> usize
-    ensures { λ r. ⌜ r ≡ firstFault (centresFaults (text (now (s .entry)) (now (map .entry)) (now (alphabet .entry))) d lent) ⌝ }
+// The first refusal of a walk of whatever centre, 0 where there is none.
+pub fn walk_refusal(s: &[u8], map: &[u8], d: usize, alphabet: &[u8]) -> usize
+    ensures { λ r. ⌜ r ≡ firstFault (walkFaults (text (now (s .entry)) (now (map .entry)) (now (alphabet .entry))) d) ⌝ }
 {
     let number = texts::refusal(s, map, alphabet);
     if number != 0 {
@@ -48,6 +48,17 @@ fn centres_refusal(s: &[u8], map: &[u8], d: usize, lent: usize, alphabet: &[u8])
     }
     if ERRORS < d {
         return 5;
+    }
+    0
+}
+
+// The first refusal of the fill of the centres into `lent` entries, 0 where there is none.
+fn centres_refusal(s: &[u8], map: &[u8], d: usize, lent: usize, alphabet: &[u8]) -> usize
+    ensures { λ r. ⌜ r ≡ firstFault (centresFaults (text (now (s .entry)) (now (map .entry)) (now (alphabet .entry))) d lent) ⌝ }
+{
+    let number = walk_refusal(s, map, d, alphabet);
+    if number != 0 {
+        return number;
     }
     if lent < centre_count(s.len()) {
         return 11;

@@ -40,7 +40,7 @@ cast-result : tie.Need-cast-result
 cast-result c = search needs
 
 returns-5 : tie.Need-returns-5
-returns-5 c = let a = c .before .before .before .before .before .before .before .before .before .args in λ z sound own. tells-two (text (a .s .now) (a .map .now) z) (a .limits) (a .start) (a .len) (a .errors) sound (c .before .before .before .before .before .before .before .before .before .pre .1 .0) (λ k. omega (arith, c .before .before .before .before .before .before .before .before .shared-slice-known .given k)) (c .before .before .before .before .before .before .if1 .left) (c .before .before .before .before .before .if2 .left) _ (c .before .before .before .before .count-errors .ensures) (c .before .before .before .if3 .left) (c .before .before .if4 .left) _ (c .before .walk .ensures z sound own)
+returns-5 c = let a = c .before .before .before .before .before .before .before .before .before .args in λ z sound own. tells-two (text (a .s .now) (a .map .now) z) (a .limits) (a .start) (a .len) (a .errors) sound (c .before .before .before .before .before .before .before .before .before .pre .1 .0) (λ k. omega (arith, c .before .before .before .before .before .before .before .before .shared-slice-known .given k)) (c .before .before .before .before .before .before .if1 .left) (c .before .before .before .before .before .if2 .left) _ (c .before .before .before .before .count-errors .ensures) (c .before .before .before .if3 .left) (c .before .before .if4 .left) _ (c .before .walk .ensures .0 z sound own)
 
 pub right-piece-spec : {M : Type 1} → statement M
 right-piece-spec =

@@ -40,7 +40,7 @@ loop-less : tie.Need-loop-less Inv-loop μ-loop
 loop-less c = omega arith
 
 loop-again : tie.Need-loop-again Inv-loop μ-loop
-loop-again c = (c .before .before .loop .inv .0, omega arith, fill-up _ 0 _ _ _ (c .before .before .loop .inv .2) _ (omega arith) (omega arith) (c .walk .ensures _ (c .before .before .before .before .before .before .before .before .before .pre .0) (c .before .before .before .before .own-partner .ensures)))
+loop-again c = (c .before .before .loop .inv .0, omega arith, fill-up _ 0 _ _ _ (c .before .before .loop .inv .2) _ (omega arith) (omega arith) (c .walk .ensures .0 _ (c .before .before .before .before .before .before .before .before .before .pre .0) (c .before .before .before .before .own-partner .ensures)))
 
 same-length : tie.Need-same-length Inv-loop μ-loop
 same-length c = c .before .loop .inv .2 .long

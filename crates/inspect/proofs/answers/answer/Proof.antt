@@ -1,5 +1,5 @@
 -- `answer` meets its contract. Assumes nothing.
-use Rattle.inspect.proofs.Reading.{tiling-fits, centres-fits, longest-fits, longer-fits}
+use Rattle.inspect.proofs.Reading.{tiling-fits, centres-fits, longest-fits, longer-fits, centre-fits}
 use native.Mathlib.Omega.{arith}
 use borrow.Author.Needs.{needs}
 use Rattle.inspect.proofs.answers.answer.Statement.{statement}
@@ -107,6 +107,21 @@ part-of-two-end-2 c = search needs
 of-two-requires : tie.Need-of-two-requires
 of-two-requires c κs = search needs
 
+enum-known-asked-5 : tie.Need-enum-known-asked-5
+enum-known-asked-5 c = search needs
+
+sub-one-centre : tie.Need-sub-one-centre
+sub-one-centre c = let h = centre-fits _ _ (c .before .before .before .read .ensures) _ _ _ _ (c .before .asked5 .given .1) in omega arith
+
+part-one-centre-start : tie.Need-part-one-centre-start
+part-one-centre-start c = let h = centre-fits _ _ (c .before .before .before .read .ensures) _ _ _ _ (c .before .asked5 .given .1) in omega arith
+
+part-one-centre-end : tie.Need-part-one-centre-end
+part-one-centre-end c = search needs
+
+one-centre-requires : tie.Need-one-centre-requires
+one-centre-requires c κs = search needs
+
 enum-told : tie.Need-enum-told
 enum-told c = search needs
 
@@ -149,11 +164,17 @@ returns-4 c = search needs
 same-length-8 : tie.Need-same-length-8
 same-length-8 c = search needs
 
+returns-5 : tie.Need-returns-5
+returns-5 c = search needs
+
 same-length-9 : tie.Need-same-length-9
 same-length-9 c = search needs
 
-returns-5 : tie.Need-returns-5
-returns-5 c = search needs
+same-length-10 : tie.Need-same-length-10
+same-length-10 c = search needs
+
+returns-6 : tie.Need-returns-6
+returns-6 c = search needs
 
 pub answer-spec : {M : Type 1} → statement M
 answer-spec =
@@ -193,6 +214,11 @@ answer-spec =
     part-of-two-start-2
     part-of-two-end-2
     of-two-requires
+    enum-known-asked-5
+    sub-one-centre
+    part-one-centre-start
+    part-one-centre-end
+    one-centre-requires
     enum-told
     answer-file-requires
     same-length
@@ -207,5 +233,7 @@ answer-spec =
     same-length-7
     returns-4
     same-length-8
+    returns-5
     same-length-9
-    returns-5)
+    same-length-10
+    returns-6)

@@ -32,8 +32,8 @@ returns-2 c = search needs
 number-after-requires-2 : tie.Need-number-after-requires-2
 number-after-requires-2 c κs = search needs
 
-enum-known-entries : tie.Need-enum-known-entries
-enum-known-entries c = search needs
+enum-known-number : tie.Need-enum-known-number
+enum-known-number c = search needs
 
 enum-told-3 : tie.Need-enum-told-3
 enum-told-3 c = search needs
@@ -47,11 +47,14 @@ stands-requires c κs = search needs
 returns-4 : tie.Need-returns-4
 returns-4 c = search needs
 
-add-t13 : tie.Need-add-t13
-add-t13 c = let h = place-in _ _ _ _ (c .before .stands .ensures) (c .if1 .left) in omega arith
+add-from : tie.Need-add-from
+add-from c = let h = place-in _ _ _ _ (c .before .stands .ensures) (c .if1 .left) in omega arith
 
 returns-5 : tie.Need-returns-5
-returns-5 c = let h = place-in _ _ _ _ (c .before .stands .ensures) (c .if1 .left) in (four-digits _ _ _ _ _ (c .before .before .before .before .before .number-after2 .ensures) (c .before .before .before .entries .given .1), omega arith)
+returns-5 c = let h = place-in _ _ _ _ (c .before .before .stands .ensures) (c .before .if1 .left) in omega arith
+
+returns-6 : tie.Need-returns-6
+returns-6 c = let h = place-in _ _ _ _ (c .before .before .stands .ensures) (c .before .if1 .left) in (four-digits _ _ _ _ _ (c .before .before .before .before .before .before .number-after2 .ensures) (c .before .before .before .before .number .given .1), omega arith)
 
 pub centres-line-spec : {M : Type 1} → statement M
 centres-line-spec =
@@ -66,10 +69,11 @@ centres-line-spec =
     enum-told-2
     returns-2
     number-after-requires-2
-    enum-known-entries
+    enum-known-number
     enum-told-3
     returns-3
     stands-requires
     returns-4
-    add-t13
-    returns-5)
+    add-from
+    returns-5
+    returns-6)

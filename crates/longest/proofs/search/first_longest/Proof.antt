@@ -42,7 +42,7 @@ cast-longer-of : tie.Need-cast-longer-of Inv-loop μ-loop
 cast-longer-of c = omega (arith, c .struct-known .given)
 
 longer-of-requires : tie.Need-longer-of-requires Inv-loop μ-loop
-longer-of-requires c κs = let h = length-fits _ _ _ _ (c .before .walk .ensures allBytes (sound-all _ _ (c .before .before .before .before .before .before .before .before .before .pre) (λ k. omega (arith, c .before .before .before .before .before .before .before .before .shared-slice-known .given k))) (c .before .before .before .before .own-partner .ensures ∙ ap (ownPartner _) (c .before .before .before .before .before .before .all .ensures))) in omega arith
+longer-of-requires c κs = let h = length-fits _ _ _ _ (c .before .walk .ensures .0 allBytes (sound-all _ _ (c .before .before .before .before .before .before .before .before .before .pre) (λ k. omega (arith, c .before .before .before .before .before .before .before .before .shared-slice-known .given k))) (c .before .before .before .before .own-partner .ensures ∙ ap (ownPartner _) (c .before .before .before .before .before .before .all .ensures))) in omega arith
 
 add-c : tie.Need-add-c Inv-loop μ-loop
 add-c c = omega arith
@@ -51,7 +51,7 @@ loop-less : tie.Need-loop-less Inv-loop μ-loop
 loop-less c = omega arith
 
 loop-again : tie.Need-loop-again Inv-loop μ-loop
-loop-again c = (refl, omega arith, search-next _ _ (c .before .before .before .before .before .before .before .before .before .before .pre) (λ k. omega (arith, c .before .before .before .before .before .before .before .before .before .shared-slice-known .given k)) _ _ _ _ (c .before .before .before .before .loop .inv .2) (c .before .before .walk .ensures allBytes (sound-all _ _ (c .before .before .before .before .before .before .before .before .before .before .pre) (λ k. omega (arith, c .before .before .before .before .before .before .before .before .before .shared-slice-known .given k))) (c .before .before .before .before .before .own-partner .ensures ∙ ap (ownPartner _) (c .before .before .before .before .before .before .before .all .ensures))) (c .longer-of .ensures))
+loop-again c = (refl, omega arith, search-next _ _ (c .before .before .before .before .before .before .before .before .before .before .pre) (λ k. omega (arith, c .before .before .before .before .before .before .before .before .before .shared-slice-known .given k)) _ _ _ _ (c .before .before .before .before .loop .inv .2) (c .before .before .walk .ensures .0 allBytes (sound-all _ _ (c .before .before .before .before .before .before .before .before .before .before .pre) (λ k. omega (arith, c .before .before .before .before .before .before .before .before .before .shared-slice-known .given k))) (c .before .before .before .before .before .own-partner .ensures ∙ ap (ownPartner _) (c .before .before .before .before .before .before .before .all .ensures))) (c .longer-of .ensures))
 
 returns : tie.Need-returns Inv-loop μ-loop
 returns c = search-end _ _ _ _ (c .before .loop .inv .2) (omega arith)

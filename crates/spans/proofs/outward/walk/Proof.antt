@@ -15,7 +15,7 @@ walk-out-requires : tie.Need-walk-out-requires
 walk-out-requires c κs = search needs
 
 returns-2 : tie.Need-returns-2
-returns-2 c = walked-out _ _ _ _ _ (sym (c .before .before .bars .ensures) ∙ c .before .if1 .left) _ (c .walk-out .ensures)
+returns-2 c = walked-out _ _ _ _ _ (sym (c .before .before .bars .ensures) ∙ c .before .if1 .left) _ (c .walk-out .result .stop) (c .walk-out .ensures)
 
 pub walk-spec : {M : Type 1} → statement M
 walk-spec = tie.close (tie.spec bars-requires returns walk-out-requires returns-2)

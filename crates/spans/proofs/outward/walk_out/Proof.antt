@@ -2,7 +2,7 @@
 use mathlib.Core.Path.{sym, subst}
 use Prim.Native.Nat.{ℕ, _≤_}
 use native.Mathlib.Omega.{arith}
-use Rattle.spans.proofs.Walking.{Walk, one-le, walk-start, walk-step, stop-start, stop-end, stop-over}
+use Rattle.spans.proofs.Walking.{Walk, one-le, walk-start, walk-step, stop-start, stop-end, stop-over, ends-start, ends-end, blocks-over}
 use Rattle.spans.proofs.outward.walk_out.Statement.{statement}
 use Rattle.spans.proofs.outward.walk_out.Tie as tie
 
@@ -28,7 +28,10 @@ reached-requires : tie.Need-reached-requires Inv-loop μ-loop
 reached-requires c κs = omega arith
 
 returns : tie.Need-returns Inv-loop μ-loop
-returns c = λ z sound free. stop-end _ _ _ _ _ _ (c .before .before .before .loop .inv) (omega arith) (c .before .if1 .taken) _ (c .reached .ensures) z free
+returns c = let w = c .before .before .before .loop .inv in (
+  λ z sound free. stop-end _ _ _ _ _ _ w (omega arith) (c .before .if1 .taken) _ (c .reached .ensures .0) z free,
+  λ z sound free. ends-end _ _ _ _ _ _ w (omega arith) (c .before .if1 .taken) _ (c .reached .ensures .1) z free,
+)
 
 differ-requires : tie.Need-differ-requires Inv-loop μ-loop
 differ-requires c κs = omega arith
@@ -40,7 +43,10 @@ reached-requires-2 : tie.Need-reached-requires-2 Inv-loop μ-loop
 reached-requires-2 c κs = omega arith
 
 returns-2 : tie.Need-returns-2 Inv-loop μ-loop
-returns-2 c = λ z sound free. stop-over _ _ _ _ _ _ (c .before .before .before .before .before .loop .inv) _ (omega arith) (c .before .before .differ .ensures) (c .before .if2 .taken) _ (c .reached2 .ensures) z free
+returns-2 c = let w = c .before .before .before .before .before .loop .inv in (
+  λ z sound free. stop-over _ _ _ _ _ _ w _ (omega arith) (c .before .before .differ .ensures) (c .before .if2 .taken) _ (c .reached2 .ensures .0) z free,
+  λ z sound free. blocks-over _ _ _ _ _ _ w _ (omega arith) (omega arith) (c .before .before .differ .ensures) (c .before .if2 .taken) _ (c .reached2 .ensures .1) z free,
+)
 
 add-e : tie.Need-add-e Inv-loop μ-loop
 add-e c = omega arith
@@ -55,7 +61,10 @@ reached-requires-3 : tie.Need-reached-requires-3 Inv-loop μ-loop
 reached-requires-3 c κs = omega arith
 
 returns-3 : tie.Need-returns-3 Inv-loop μ-loop
-returns-3 c = λ z sound free. stop-start _ _ _ _ _ _ (c .before .before .loop .inv) (c .before .loop-test .left) _ (c .reached3 .ensures) z free
+returns-3 c = let w = c .before .before .loop .inv in (
+  λ z sound free. stop-start _ _ _ _ _ _ w (c .before .loop-test .left) _ (c .reached3 .ensures .0) z free,
+  λ z sound free. ends-start _ _ _ _ _ _ w (c .before .loop-test .left) _ (c .reached3 .ensures .1) z free,
+)
 
 pub walk-out-spec : {M : Type 1} → statement M
 walk-out-spec =

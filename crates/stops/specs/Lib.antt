@@ -1,0 +1,3 @@
+-- The question for one centre.
+pub mod Centre
+pub mod Laws
