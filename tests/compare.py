@@ -6,7 +6,7 @@
 
 Each COMMAND runs a program under test on standard input and output. Seeded
 scripts are sent to it, and each reply is compared byte for byte with that of
-tests/second.py; where 01, requests L1, L2 and L3 or their readings settle the
+tests/second.py; where 01, requests L1 to L4 or their readings settle the
 answer, also with a text written by hand. Scripts over maps and alphabets have
 to show all that can come of them. --long does ten times as much. --spoil flips
 one byte of each program's output, to show that the comparison can fail. The
@@ -36,6 +36,7 @@ from drawing import (  # noqa: E402
     agreement_question, any_limits, any_string, fibonacci_word, joined,
     parts_given, random_word, room_near, table_entries, tiling_question,
     usual_limits)
+from map_texts import MAP_READINGS  # noqa: E402
 from selfcheck import small_strings  # noqa: E402
 from stop_texts import (  # noqa: E402
     CALLS_WITHOUT_STOPS, STOP_EXAMPLES, STOP_LINES, STOP_READINGS,
@@ -951,6 +952,7 @@ def inspect_scripts(seed, times):
         seed, lambda s: inspection_lines(s, 80, SHORT_LENGTHS))
     yield from alphabet_scripts(seed, times)
     yield from stop_scripts(seed, times)
+    yield from hand_scripts("L4 reading", MAP_READINGS)
 
 
 def parsed_arguments():

@@ -6,3 +6,4 @@ pub mod Refusals
 pub mod Ranges
 pub mod Passed
 pub mod Told
+pub mod Laws

@@ -48,11 +48,13 @@ values-at rule x zero i h = absurd (omega arith)
 values-at rule x (suc k) zero h = ap rule (omega arith)
 values-at rule x (suc k) (suc i) h = values-at rule (suc x) k i (omega arith) ∙ ap rule (let e : suc x + i ≡ x + suc i = omega arith in e)
 
+-- The map of a rule: the partner of each byte is the rule's, and no other 256 bytes are so.
+pub rule-at : (rule : ℕ → ℕ) (x : ℕ) → x < 256 → partner (valuesFrom 0 256 rule) x ≡ rule x
+rule-at rule x h = values-at rule 0 256 x h ∙ ap rule (let e : 0 + x ≡ x = omega arith in e)
+
+pub rule-only : (rule : ℕ → ℕ) (f : List ℕ) → length f ≡ 256 → ((x : ℕ) → x < 256 → partner f x ≡ rule x) → f ≡ valuesFrom 0 256 rule
+rule-only rule f e at = ext-getD 0 f (valuesFrom 0 256 rule) (e ∙ sym (values-length rule 0 256)) (λ x h. at x (omega arith) ∙ sym (rule-at rule x (omega arith)))
+
 -- 256 entries that hold a rule's values are the rule's list.
 pub rule-filled : (rule : ℕ → ℕ) (b a : List ℕ) {k : ℕ} → 256 ≤ k → length b ≡ 256 → Filled (λ i v. v ≡ rule i) 0 k b a → a ≡ valuesFrom 0 256 rule
-rule-filled rule b a l e f =
-    ext-getD 0 a (valuesFrom 0 256 rule) (f .long ∙ e ∙ sym (values-length rule 0 256))
-    (λ i h.
-    let n : length a ≡ length b = f .long in
-    let z : 0 + i ≡ i = omega arith in
-    f .held i (omega arith) (omega arith) ∙ sym (values-at rule 0 256 i (omega arith) ∙ ap rule z))
+rule-filled rule b a l e f = rule-only rule a (f .long ∙ e) (λ x h. f .held x (omega arith) (omega arith))

@@ -7,3 +7,4 @@ pub mod Limits
 pub mod Texts
 pub mod Passed
 pub mod Tells
+pub mod Laws

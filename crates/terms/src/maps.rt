@@ -1,9 +1,6 @@
 // The two maps supplied, and refusals 2 and 3.
-mod partners;
-
-use crate::maps::partners::COMPLEMENT;
 ghost use mathlib.Core.Path.{_≡_};
-ghost use lib.ListN.{length};
+ghost use lib.ListN.{length, set};
 ghost use Rattle.terms.specs.Refusals.{firstFault};
 ghost use Rattle.terms.specs.Maps.{plainMap, complementMap, ownInverse, mapFaults};
 
@@ -20,11 +17,22 @@ pub fn plain() -> [u8; 256]
     map
 }
 
-// A with T, C with G, every other byte its own partner.
+// The map with a and b as each other's partner, and every other byte's partner as it was.
+fn pair(map: [u8; 256], a: u8, b: u8) -> [u8; 256]
+    ensures { λ r. ⌜ r ≡ set (set map a b) b a ⌝ }
+{
+    let mut paired = map;
+    paired[a as usize] = b;
+    paired[b as usize] = a;
+    paired
+}
+
+// The rule: A with T, C with G, every other byte its own partner.
 pub fn complement() -> [u8; 256]
     ensures { λ r. ⌜ r ≡ complementMap ⌝ }
 {
-    COMPLEMENT
+    let map = pair(plain(), b'A', b'T');
+    pair(map, b'C', b'G')
 }
 
 // Whether f(f(x)) = x for every byte x.
