@@ -1,8 +1,8 @@
 // The two maps supplied, and refusals 2 and 3.
 ghost use mathlib.Core.Path.{_≡_};
-ghost use lib.ListN.{length, set};
+ghost use lib.ListN.{length};
 ghost use Rattle.terms.specs.Refusals.{firstFault};
-ghost use Rattle.terms.specs.Maps.{plainMap, complementMap, ownInverse, mapFaults};
+ghost use Rattle.terms.specs.Maps.{partner, plainMap, complementMap, ownInverse, mapFaults};
 
 // Each byte its own partner.
 pub fn plain() -> [u8; 256]
@@ -17,22 +17,30 @@ pub fn plain() -> [u8; 256]
     map
 }
 
-// The map with a and b as each other's partner, and every other byte's partner as it was.
-fn pair(map: [u8; 256], a: u8, b: u8) -> [u8; 256]
-    ensures { λ r. ⌜ r ≡ set (set map a b) b a ⌝ }
+// The complement's rule: four letters, and the rest themselves.
+fn complement_of(letter: u8) -> u8
+    ensures { λ r. ⌜ r ≡ partner complementMap letter ⌝ }
 {
-    let mut paired = map;
-    paired[a as usize] = b;
-    paired[b as usize] = a;
-    paired
+    match letter {
+        b'A' => b'T',
+        b'T' => b'A',
+        b'C' => b'G',
+        b'G' => b'C',
+        _ => letter,
+    }
 }
 
-// The rule: A with T, C with G, every other byte its own partner.
+// A with T, C with G, every other byte its own partner.
 pub fn complement() -> [u8; 256]
     ensures { λ r. ⌜ r ≡ complementMap ⌝ }
 {
-    let map = pair(plain(), b'A', b'T');
-    pair(map, b'C', b'G')
+    let mut map = [0u8; 256];
+    let mut x: usize = 0;
+    while x < 256 {
+        map[x] = complement_of(x as u8);
+        x += 1;
+    }
+    map
 }
 
 // Whether f(f(x)) = x for every byte x.
