@@ -24,13 +24,14 @@ c-with-g = paired 67 71 (λ x. x)
 abbrev rule : ℕ → ℕ
 rule = paired 65 84 c-with-g
 
+-- the partner of a byte that is known
+pub partner-at : (f : List ℕ) {x k v : ℕ} → x ≡ k → partner f k ≡ v → partner f x ≡ v
+partner-at f e p = ap (λ (y : ℕ). partner f y) e ∙ p
+
 by-rule : (f : List ℕ) → ComplementRule f → (x : ℕ) → x < 256 → partner f x ≡ rule x
 by-rule f r x h =
-    paired-is 65 84 c-with-g x (partner f x) (at (r .A)) (at (r .T))
-    (λ a t. paired-is 67 71 (λ y. y) x (partner f x) (at (r .C)) (at (r .G)) (λ c g. r .rest x h (⊎-elim a (⊎-elim t (⊎-elim c (⊎-elim g (λ (z : ⊥). z)))))))
-  where
-    at : {k v : ℕ} → partner f k ≡ v → x ≡ k → partner f x ≡ v
-    at p e = ap (λ (y : ℕ). partner f y) e ∙ p
+    paired-is 65 84 c-with-g x (partner f x) (λ e. partner-at f e (r .A)) (λ e. partner-at f e (r .T))
+    (λ a t. paired-is 67 71 (λ y. y) x (partner f x) (λ e. partner-at f e (r .C)) (λ e. partner-at f e (r .G)) (λ c g. r .rest x h (⊎-elim a (⊎-elim t (⊎-elim c (⊎-elim g (λ (z : ⊥). z)))))))
 
 pub supplied-laws : SuppliedLaws
 unfolding plainMap complementMap

@@ -1,28 +1,23 @@
 -- `complement_of` meets its contract: its five arms are the law's four letters and the rest. Assumes nothing.
-use mathlib.Core.Path.{_≡_, sym, ap, _∙_}
+use mathlib.Core.Path.{sym}
 use mathlib.Core.Logic.{⊎-elim}
-use Prim.Native.Nat.{ℕ}
 use native.Mathlib.Omega.{arith}
-use Rattle.terms.specs.Maps.{partner, complementMap}
-use Rattle.terms.proofs.Laws.{supplied-laws}
+use Rattle.terms.specs.Maps.{complementMap}
+use Rattle.terms.proofs.Laws.{partner-at, supplied-laws}
 use Rattle.terms.proofs.maps.complement_of.Statement.{statement}
 use Rattle.terms.proofs.maps.complement_of.Tie as tie
 
--- a letter's partner, where the letter is known
-known : {x k v : ℕ} → x ≡ k → partner complementMap k ≡ v → v ≡ partner complementMap x
-known e p = sym (ap (λ (y : ℕ). partner complementMap y) e ∙ p)
-
 returns : tie.Need-returns
-returns c = known (c .match .keys1) (supplied-laws .complement .A)
+returns c = sym (partner-at complementMap (c .match .keys1) (supplied-laws .complement .A))
 
 returns-2 : tie.Need-returns-2
-returns-2 c = known (c .match .keys2) (supplied-laws .complement .T)
+returns-2 c = sym (partner-at complementMap (c .match .keys2) (supplied-laws .complement .T))
 
 returns-3 : tie.Need-returns-3
-returns-3 c = known (c .match .keys3) (supplied-laws .complement .C)
+returns-3 c = sym (partner-at complementMap (c .match .keys3) (supplied-laws .complement .C))
 
 returns-4 : tie.Need-returns-4
-returns-4 c = known (c .match .keys4) (supplied-laws .complement .G)
+returns-4 c = sym (partner-at complementMap (c .match .keys4) (supplied-laws .complement .G))
 
 returns-5 : tie.Need-returns-5
 returns-5 c =
