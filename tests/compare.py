@@ -6,12 +6,12 @@
 
 Each COMMAND runs a program under test on standard input and output. Seeded
 scripts are sent to it, and each reply is compared byte for byte with that of
-tests/second.py; where 01, requests L1 to L4 or their readings settle the
-answer, also with a text written by hand. Scripts over maps and alphabets have
-to show all that can come of them. --long does ten times as much. --spoil flips
-one byte of each program's output, to show that the comparison can fail. The
-last line is 'N passed, M failed', and the exit status is 0 only where nothing
-failed.
+tests/second.py; where 01, requests L1 to L5 or their readings settle the
+answer, also with a text written by hand. Scripts over maps and alphabets, and
+those with letters put in and taken out, have to show all that can come of
+them. --long does ten times as much. --spoil flips one byte of each program's
+output, to show that the comparison can fail. The last line is 'N passed, M
+failed', and the exit status is 0 only where nothing failed.
 """
 
 import argparse
@@ -27,16 +27,18 @@ import time
 # Keeps the tests' directory free of compiled files.
 sys.dont_write_bytecode = True
 import alphabets  # noqa: E402
+import places  # noqa: E402
 import second  # noqa: E402
 import stops  # noqa: E402
 from alphabet_texts import (  # noqa: E402
     ALPHABET_LINES, ALPHABET_READINGS, CALLS_WITH_ALL_BYTES, INSPECT_EXAMPLES)
 from damage import RECORD, RETURN_WAYS, Returned  # noqa: E402
 from drawing import (  # noqa: E402
-    agreement_question, any_limits, any_string, fibonacci_word, joined,
-    parts_given, random_word, room_near, table_entries, tiling_question,
-    usual_limits)
+    agreement_question, any_limits, any_map, any_string, fibonacci_word,
+    joined, opening, parts_given, random_word, room_near, table_entries,
+    tiling_question, usual_limits)
 from map_texts import MAP_READINGS  # noqa: E402
+from place_texts import PLACE_READINGS  # noqa: E402
 from selfcheck import small_strings  # noqa: E402
 from stop_texts import (  # noqa: E402
     CALLS_WITHOUT_STOPS, STOP_EXAMPLES, STOP_LINES, STOP_READINGS,
@@ -388,28 +390,6 @@ def input_end_scripts():
     ]
 
 
-# Limits and lines of the call program.
-
-def opening(limits, map_name, string):
-    return joined(b"O", *limits, map_name, string)
-
-
-def any_map(source):
-    return source.choice([b"I", b"C"])
-
-
-def any_letter_byte(source):
-    if source.random() < 0.85:
-        return source.choice(b"ACGTN")
-    return source.choice([0, 10, 13, 32, 128, 254, 255, 256, 300, 9999])
-
-
-def any_place(source, count):
-    if count > 0 and source.random() < 0.9:
-        return source.randrange(count)
-    return source.choice([0, count, count + 1, 999, 1000, 9999])
-
-
 # Misheard lines: right lines with one thing wrong.
 
 def with_changed_field(source, line, change):
@@ -456,6 +436,8 @@ def misheard(source, line):
         lambda: line + b" ", lambda: b" " + line, lambda: line + b"\r",
         lambda: line + b"\0", lambda: line + b"\x85", lambda: line + b" 7",
         lambda: line.lower(), lambda: line + line,
+        # One change for another: an X line with a byte, an I line without.
+        lambda: source.choice([b"I", b"X", b"L"]) + line[1:],
         lambda: with_noise_byte(source, line),
         lambda: with_noise_byte(source, line),
     ]
@@ -467,14 +449,17 @@ def wrong_line(source):
     if sort == 0:
         return source.choice([b"", b" ", b"X", b"HELP", b"\r", b"\0", b"\xff",
                               b"L", b"M", b"O", b"QQ", b"BA", b"0", b"Q Q",
-                              b"!", b"E", b"\xc3\x96 1 2 2 0 I AC"])
+                              b"!", b"E", b"\xc3\x96 1 2 2 0 I AC", b"I",
+                              b"I 0", b"X 0 65", b"B X", b"IX 0"])
     if sort == 1:
         length = source.choice([1040, 1041, 1042, 2081, 5000])
-        head = source.choice([b"O 1 2 2 0 I ", b"Q", b"L 0 65 ", b"", b" "])
+        head = source.choice([b"O 1 2 2 0 I ", b"Q", b"L 0 65 ", b"I 0 65 ",
+                              b"X 0 ", b"", b" "])
         return (head + b"ACGT" * 1300)[:length]
     if sort == 2:
         return refused_long_opening(source)
-    return random_word(source, b"OLMBAQ 0123456789IC", source.randrange(1, 16))
+    return random_word(
+        source, b"OLMIXBAQ 0123456789IC", source.randrange(1, 16))
 
 
 def refused_long_opening(source):
@@ -483,18 +468,15 @@ def refused_long_opening(source):
     return opening(usual_limits(source), any_map(source), b"A" * length)
 
 
-CALL_WEIGHTS = [(b"O", 5), (b"L", 30), (b"M", 12), (b"B", 18), (b"A", 12),
-                (b"Q", 16), (b"wrong", 7)]
+CALL_WEIGHTS = [(b"O", 5), (b"L", 14), (b"I", 14), (b"X", 10), (b"M", 10),
+                (b"B", 18), (b"A", 12), (b"Q", 16), (b"wrong", 7)]
 
 
 def call_line(source, sort, count):
-    if sort == b"L":
-        return joined(b"L", any_place(source, count), any_letter_byte(source))
-    if sort == b"M":
-        return joined(b"M", *any_limits(source))
-    if sort == b"wrong":
-        return wrong_line(source)
-    return sort
+    """On a sheet of so many letters."""
+    if sort in places.CHANGES:
+        return places.change_line(source, sort, count)
+    return wrong_line(source) if sort == b"wrong" else sort
 
 
 def random_call(source, line_count, lengths, question_share=1.0):
@@ -502,34 +484,34 @@ def random_call(source, line_count, lengths, question_share=1.0):
     sorts = [sort for sort, _ in CALL_WEIGHTS]
     weights = [weight * (question_share if sort == b"Q" else 1)
                for sort, weight in CALL_WEIGHTS]
-    lines, count = [], 0
+    clerk = places.Clerk()
     for index in range(line_count):
         sort = source.choices(sorts, weights)[0]
         if index == 4 or sort == b"O":
             string = any_string(source, source.choice(lengths))
-            count = len(string)
             line = opening(any_limits(source), any_map(source), string)
         else:
-            line = call_line(source, sort, count)
+            line = call_line(source, sort, clerk.count())
         if source.random() < 0.08:
             line = misheard(source, line)
-        lines.append(line)
-    return lines
+        clerk.type(line)
+    return clerk.lines
 
 
 def history_call(source, rounds):
     """Runs of one sort of line, long enough to pass 64 changes."""
-    length = source.choice([1, 3, 8, 20])
-    lines = [opening([1, 1, 1, 0], any_map(source), b"A" * length)]
+    string = b"A" * source.choice([0, 1, 3, 8, 20])
+    clerk = places.Clerk()
+    clerk.type(opening([1, 1, 1, 0], any_map(source), string))
     for _ in range(rounds):
-        sort = source.choice([b"L", b"L", b"L", b"M", b"B", b"B", b"A", b"A"])
-        run = source.choice([1, 2, 5, 30, 63, 64, 65, 70])
-        lines += [call_line(source, sort, length) for _ in range(run)]
-        extra = source.choice([
+        sort = source.choice(places.CHANGES + [b"I", b"B", b"B", b"A", b"A"])
+        for _ in range(source.choice([1, 2, 5, 30, 63, 64, 65, 70])):
+            clerk.type(call_line(source, sort, clerk.count()))
+        clerk.type(source.choice([
             b"Q", b"B", b"A", b"L 9999 65", b"M 3 1 0 0", b"L 0 256",
-            b"O 3 1 0 0 I A", refused_long_opening(source)])
-        lines.append(extra)
-    return lines
+            b"I 9999 65", b"I 0 256", b"X 9999", b"X", b"O 3 1 0 0 I A",
+            refused_long_opening(source)]))
+    return clerk.lines
 
 
 # Groups of scripts for the call program.
@@ -592,9 +574,10 @@ def full_length_lines(source):
     limits = [kind, source.choice([2, 4, 6, 9]), 15,
               source.choice([0, 1, 3, 15]) if kind == 2 else 0]
     lines = [opening(limits, any_map(source), string), b"Q"]
-    for _ in range(2):
-        lines += [joined(b"L", source.randrange(len(string)),
-                         source.choice(b"ACGT")), b"Q"]
+    one, other, third = (source.randrange(len(string)) for _ in range(3))
+    lines += [joined(b"L", one, source.choice(b"ACGT")), b"Q",
+              joined(b"X", other),
+              joined(b"I", third, source.choice(b"ACGT")), b"Q"]
     lines += [joined(b"M", 2, source.choice([5, 8, 11]), 15,
                      source.choice([1, 2, 4])), b"Q", b"B", b"B", b"A"]
     return lines
@@ -621,7 +604,7 @@ def heavy_scripts():
 def noise_scripts(seed, size):
     plain = seeded(seed, "noise").randbytes(size // 2)
     source = seeded(seed, "noise of known letters")
-    alphabet = b"OLMBAQ QQBA 0123456789 IC ACGT\n\n\n"
+    alphabet = b"OLMIXBAQ QQBA 0123456789 IC ACGT\n\n\n"
     known = random_word(source, alphabet, size // 2)
     first = b"O 2 1 2 1 C ACGTTGCA\n"
     return [raw_script("noise", plain, None),
@@ -642,10 +625,25 @@ def long_line_scripts(seed):
     source = seeded(seed, "long lines")
     lines = [opening([1, 1, 1, 0], b"I", b"ACCA")]
     for length in (1040, 1041, 5000, 100000, 1039, 4096, 8192, 65536, 65537):
-        body = random_word(source, b"ACQ BLM017", length)
+        body = random_word(source, b"ACQ BLMIX017", length)
         lines += [body, b"Q", (b"O 1 1 1 0 I " + body)[:length], b"B"]
     yield Script("long lines", lines)
     yield Script("long lines in pieces", lines, sent="pieces")
+
+
+def misheard_changes(source):
+    """On an open sheet."""
+    return [opening(usual_limits(source), any_map(source), b"ACGTTGCA")] \
+        + misheard_sample(source, places.full_history_lines)
+
+
+def place_scripts(seed, times):
+    """The numbers are those of the readings of 02, L5."""
+    yield from hand_scripts("L5 reading", PLACE_READINGS)
+    for name, count, lines_from, find_faults in places.GROUPS:
+        yield from many(seed, "L5 readings " + name, count * times, lines_from,
+                        find_faults=find_faults)
+    yield from many(seed, "L5: misheard lines", 2 * times, misheard_changes)
 
 
 def call_scripts(seed, times):
@@ -679,6 +677,7 @@ def call_scripts(seed, times):
         seed, lambda s: random_call(s, 150, SHORT_LENGTHS))
     yield from hand_scripts("L2 reading", CALLS_WITH_ALL_BYTES)
     yield from hand_scripts("L3 reading", CALLS_WITHOUT_STOPS)
+    yield from place_scripts(seed, times)
 
 
 # Lines and groups of scripts for the inspect program. Those over alphabets are

@@ -1,5 +1,5 @@
 """What is drawn from a source of chance for the scripts of both programs:
-strings, limits and lent rooms; and fields put together to lines."""
+strings, maps, limits and lent rooms; and fields put together to lines."""
 
 import second
 from damage import OUT_OF_RANGE, can_be_opened
@@ -58,7 +58,11 @@ def any_string(source, length):
     return random_word(source, letters, length)
 
 
-# Limits.
+# Maps and limits.
+
+def any_map(source):
+    return source.choice([b"I", b"C"])
+
 
 def usual_limits(source):
     kind = source.choice([1, 2])
@@ -109,6 +113,11 @@ def room_for_parts(string, map_name, alphabet, limits):
 def joined(*fields):
     return b" ".join(field if isinstance(field, bytes)
                      else str(field).encode("ascii") for field in fields)
+
+
+def opening(limits, map_name, string):
+    """A line of the call program."""
+    return joined(b"O", *limits, map_name, string)
 
 
 def tiling_question(source, letter, limits, map_name, alphabet, string):

@@ -1,16 +1,18 @@
 #!/usr/bin/env python3
 """An independent second program for the call program and for inspection.
 
-Written from the build description (01), from requests L1, L2 and L3 (02) and
-from how docs/DECISIONS.md reads them, by the definitions, so that it shares no
-code with the program that it is compared with.
+Written from the build description (01), from requests L1 to L5 (02) and from
+how docs/DECISIONS.md reads them, by the definitions, so that it shares no code
+with the program that it is compared with.
 
     python3 tests/second.py call        answers the call program's lines
     python3 tests/second.py inspect     answers the inspect lines
     python3 tests/second.py self-check  compares its two ways of each question
 
 Short strings are tiled by brute force over all permitted tilings, longer ones
-by a plain table. The self-check (selfcheck.py) shows that both ways agree.
+by a plain table. The self-check (selfcheck.py) shows that both ways agree. A
+sheet carries its changes out one by one, and after each of them its letters
+and limits are reckoned afresh from the opening.
 """
 
 import functools
@@ -487,6 +489,12 @@ def ask_agreement(letters, letter_map, alphabet, limits, file):
 
 # The sheet.
 
+# A change is (sort, place, old, new): a letter (L) or limits (M) with what it
+# replaces, a put-in (I) without an old letter, a take-out (X) without a new
+# one. To take it back is to make it the other way round, old for new.
+OTHER_WAY_ROUND = {"L": "L", "M": "M", "I": "X", "X": "I"}
+
+
 class Sheet:
     """One string, its alphabet and its limits during a call, with the two
     lists. Every sheet here comes from an opening and is changed by its calls
@@ -499,6 +507,7 @@ class Sheet:
         self.letter_map = letter_map
         self.alphabet = alphabet
         self.limits = (kind, m, g, d)
+        self.opened = bytes(letters), self.limits
         self.standing = []
         self.taken_back = []
 
@@ -508,6 +517,22 @@ class Sheet:
         refuse_letter(letter, self.alphabet)
         self.refuse_when_full()
         return self.accept(("L", place, self.letters[place], letter))
+
+    def put_in(self, place, letter):
+        """Before a place, or behind the last letter."""
+        if place > len(self.letters):
+            raise Refusal(6)
+        if len(self.letters) >= MOST_LETTERS:
+            raise Refusal(1)
+        refuse_letter(letter, self.alphabet)
+        self.refuse_when_full()
+        return self.accept(("I", place, None, letter))
+
+    def take_out(self, place):
+        if place >= len(self.letters):
+            raise Refusal(6)
+        self.refuse_when_full()
+        return self.accept(("X", place, self.letters[place], None))
 
     def change_limits(self, kind, m, g, d):
         refuse_limits(kind, m, g, d)
@@ -529,7 +554,7 @@ class Sheet:
         change = self.standing.pop()
         self.taken_back.append(change)
         sort, place, old, new = change
-        return self.carry_out((sort, place, new, old))
+        return self.carry_out((OTHER_WAY_ROUND[sort], place, new, old))
 
     def put_again(self):
         if not self.taken_back:
@@ -544,10 +569,38 @@ class Sheet:
         if sort == "L":
             self.letters[place] = new
             said = (place, old, new)
+        elif sort == "I":
+            self.letters.insert(place, new)
+            said = (place, new, len(self.letters))
+        elif sort == "X":
+            self.letters.pop(place)
+            said = (place, old, len(self.letters))
         else:
             self.limits = new
             said = new
+        self.check()
         return line_of(sort, *said, len(self.standing))
+
+    def reckoned(self):
+        """Letters and limits afresh: those of the opening, with the standing
+        changes made in order. What they replaced isn't looked at."""
+        letters, limits = self.opened
+        for sort, place, _, new in self.standing:
+            if sort == "M":
+                limits = new
+                continue
+            following = place if sort == "I" else place + 1
+            written = b"" if sort == "X" else bytes([new])
+            letters = letters[:place] + written + letters[following:]
+        return letters, limits
+
+    def check(self):
+        if (bytes(self.letters), self.limits) != self.reckoned():
+            raise AssertionError("not the opening with the standing changes")
+        if len(self.letters) > MOST_LETTERS:
+            raise AssertionError("more than 1,000 letters")
+        if len(self.standing) + len(self.taken_back) > MOST_CHANGES:
+            raise AssertionError("more than 64 changes in both lists")
 
 
 # Lines, in and out.
@@ -630,15 +683,19 @@ class CallProgram:
         sort = line[:1]
         if sort == b"O":
             return self.open(line)
-        if sort == b"L":
+        if sort in (b"L", b"I"):
             name, place, byte = fields_of(line, 3)
             numbers = number_from(place), byte_from(byte)
+        elif sort == b"X":
+            name, place = fields_of(line, 2)
+            numbers = (number_from(place),)
         elif sort == b"M":
             name, *limits = fields_of(line, 5)
             numbers = numbers_from(limits)
         else:
             name, numbers = line, ()
         calls = {b"L": Sheet.change_letter, b"M": Sheet.change_limits,
+                 b"I": Sheet.put_in, b"X": Sheet.take_out,
                  b"B": said_back("B", Sheet.take_back),
                  b"A": said_back("A", Sheet.put_again), b"Q": question_lines}
         if name not in calls:

@@ -3,7 +3,8 @@ for every map and alphabet that an opening accepts. A part file is judged to be
 a permitted tiling exactly when it is the file of one of all permitted tilings,
 and a span is a d-palindrome exactly when some exact palindrome over the
 alphabet differs from it in at most d places. What stops a palindrome goes with
-its length, and letters farther out change neither.
+its length, and letters farther out change neither. After any run of calls a
+sheet is what its opening and the calls alone make of it.
 
     python3 tests/second.py self-check
 """
@@ -14,13 +15,14 @@ import sys
 
 from second import (
     ALPHABETS, BARRED, BRUTE_TILINGS, BYTES_A_PART, END_MET, GAP, INSPECT_MAPS,
-    MOST_CHANGES, NO_TILING, PAIR_BLOCKS, Refusal, Sheet, all_tilings,
-    alphabet_of, ask_agreement, ask_centres, ask_stop, error_count,
-    exact_lengths, gap_total, has_own_partner, is_d_palindrome,
-    is_exact_palindrome, longest_palindrome, longest_palindrome_by_definition,
-    maximal_length, maximal_length_by_definition, maximal_lengths,
-    pieces_by_definition, read_part, record_of, records_of, start_of_span,
-    stop, tile_by_brute_force, tile_by_table)
+    MOST_CHANGES, MOST_LETTERS, NO_TILING, PAIR_BLOCKS, Refusal, Sheet,
+    all_tilings, alphabet_of, ask_agreement, ask_centres, ask_stop,
+    error_count, exact_lengths, gap_total, has_own_partner, is_d_palindrome,
+    is_exact_palindrome, line_of, longest_palindrome,
+    longest_palindrome_by_definition, maximal_length,
+    maximal_length_by_definition, maximal_lengths, pieces_by_definition,
+    read_part, record_of, records_of, start_of_span, stop,
+    tile_by_brute_force, tile_by_table)
 
 # By hand from the descriptions of maps and alphabets: the letters of each
 # alphabet, the alphabets that a map closes, and those among them with a letter
@@ -449,52 +451,228 @@ def check_random_files(random_source, rounds):
         random_source, range(10), 3), 6) for _ in range(rounds))
 
 
-# The sheet's letters.
+# The sheet's calls, named by their letters in the call program.
 
-def letter_tests(sheet, place, letter, name):
-    return [(6, place >= len(sheet.letters)),
-            (19, letter not in LETTERS_OF[name]),
-            (7, len(sheet.standing) >= MOST_CHANGES)]
+SHEET_CALLS = {
+    "L": Sheet.change_letter, "M": Sheet.change_limits, "I": Sheet.put_in,
+    "X": Sheet.take_out, "B": Sheet.take_back, "A": Sheet.put_again}
 
+# The lists of 01, L2 and L5, in testing order.
+REFUSALS_OF_CALLS = {"L": [6, 19, 7], "M": [4, 5, 7], "I": [6, 1, 19, 7],
+                     "X": [6, 7], "B": [8], "A": [9]}
 
-def letters_from(opened, standing):
-    """The letters reckoned from the opening and the standing changes."""
-    letters = list(opened)
-    for _, place, _, new in standing:
-        letters[place] = new
-    return letters
+# How take-back shows each change.
+SHOWN_BACK = {"L": "L", "M": "M", "I": "X", "X": "I"}
 
 
-def check_letter_calls(random_source, case, rounds):
-    """Letter calls among take-backs and put-agains, in long runs so that 64
-    changes come to stand; and the numbers that they were refused with."""
+class Followed:
+    """Both lists as they come of the calls made since the opening, each change
+    as it was asked for. Nothing is read off the sheet."""
+
+    def __init__(self, letters, limits):
+        self.opened, self.opened_limits = letters, limits
+        self.standing, self.taken_back = [], []
+        self.letters = letters
+
+    def follow(self, sort, numbers):
+        """An accepted call."""
+        if sort == "B":
+            self.taken_back.append(self.standing.pop())
+        elif sort == "A":
+            self.standing.append(self.taken_back.pop())
+        else:
+            self.standing.append((sort, numbers))
+            self.taken_back = []
+        self.letters = bytes(map(self.letter_at, range(self.count())))
+
+    def limits(self):
+        """Those asked for last."""
+        asked = [numbers for sort, numbers in self.standing if sort == "M"]
+        return asked[-1] if asked else self.opened_limits
+
+    def count(self):
+        sorts = [sort for sort, _ in self.standing]
+        return len(self.opened) + sorts.count("I") - sorts.count("X")
+
+    def letter_at(self, place):
+        """Follows the letter from place to place, from the newest change back
+        to the one that wrote it or else to the opening."""
+        for sort, numbers in reversed(self.standing):
+            if sort in ("L", "I") and numbers[0] == place:
+                return numbers[1]
+            if sort == "I" and numbers[0] < place:
+                place -= 1
+            elif sort == "X" and numbers[0] <= place:
+                place += 1
+        return self.opened[place]
+
+
+def call_tests(followed, name, sort, numbers):
+    """A call's list of refusals, each with whether it holds."""
+    if sort == "B":
+        return [(8, not followed.standing)]
+    if sort == "A":
+        return [(9, not followed.taken_back)]
+    full = [(7, len(followed.standing) >= MOST_CHANGES)]
+    if sort == "M":
+        return limit_tests(*numbers) + full
+    place, count = numbers[0], followed.count()
+    if sort == "X":
+        return [(6, place >= count)] + full
+    outside = [(19, numbers[1] not in LETTERS_OF[name])]
+    if sort == "L":
+        return [(6, place >= count)] + outside + full
+    return [(6, place > count), (1, count >= MOST_LETTERS)] + outside + full
+
+
+def change_shown(followed, sort, numbers):
+    """The sort of the change that a call makes, and its numbers as asked."""
+    if sort == "B":
+        newest, numbers = followed.standing[-1]
+        return SHOWN_BACK[newest], numbers
+    if sort == "A":
+        return followed.taken_back[-1]
+    return sort, numbers
+
+
+def letters_said(shown, place, before, after):
+    """What a change of letters says back, read off the strings before it and
+    after it."""
+    if shown == "L":
+        return place, before[place], after[place]
+    changed = before if shown == "X" else after
+    return place, changed[place], len(after)
+
+
+def followed_reply(followed, sort, numbers):
+    """The sort of the change that an accepted call makes, and its line."""
+    before = followed.letters
+    shown, asked = change_shown(followed, sort, numbers)
+    followed.follow(sort, numbers)
+    said = followed.limits()
+    if shown != "M":
+        said = letters_said(shown, asked[0], before, followed.letters)
+    return shown, line_of(shown, *said, len(followed.standing))
+
+
+def reply_of(sheet, sort, numbers):
+    """The line that is said back, or the number of a refusal."""
+    try:
+        return SHEET_CALLS[sort](sheet, *numbers)
+    except Refusal as refusal:
+        return refusal.number
+
+
+def as_asked(change):
+    """A change that the sheet keeps, without what it replaced."""
+    sort, place, _, new = change
+    if sort == "M":
+        return sort, new
+    return sort, (place,) if sort == "X" else (place, new)
+
+
+def check_sheet(call, sheet, followed):
+    """The sheet beside what its opening and the calls make of it."""
+    wanted = followed.letters, followed.limits()
+    must_agree("sheet", call, (bytes(sheet.letters), sheet.limits), wanted)
+    must_agree("sheet reckoned afresh", call, sheet.reckoned(), wanted)
+    must_agree("standing", call, followed.standing,
+               [as_asked(change) for change in sheet.standing])
+    must_agree("taken back", call, followed.taken_back,
+               [as_asked(change) for change in sheet.taken_back])
+    must_agree("1,000 letters at most", call, len(sheet.letters) <= 1000, True)
+    must_agree("64 changes at most", call, len(sheet.standing) <= 64, True)
+    # What an opening would refuse would be 24.
+    must_agree("bounds", call, 0, number_of(
+        Sheet, bytes(sheet.letters), sheet.letter_map, sheet.alphabet,
+        *sheet.limits))
+
+
+def check_call(sheet, followed, name, sort, numbers):
+    """One call, and what came of it: each two refusals that hold together, and
+    the number of the first or the sort of the change that is made."""
+    call = len(followed.opened), name, followed.standing, sort, numbers
+    tests = call_tests(followed, name, sort, numbers)
+    wanted = outcome = first_fault(tests)
+    if wanted == 0:
+        outcome, wanted = followed_reply(followed, sort, numbers)
+    must_agree("call", call, wanted, reply_of(sheet, sort, numbers))
+    check_sheet(call, sheet, followed)
+    held = [number for number, holds in tests if holds]
+    return {(sort, outcome)} | {
+        (sort,) + two for two in itertools.combinations(held, 2)}
+
+
+def any_numbers(random_source, sort, count):
+    """Places up to the second past the last letter; right and wrong letters
+    and limits."""
+    if sort in ("B", "A"):
+        return ()
+    if sort == "M":
+        return random_source.choice([
+            (1, 1, 0, 0), (2, 1, 2, 1), (2, 1000, 15, 15), (1, 2, 3, 0),
+            (3, 1, 0, 0), (1, 1, 0, 1), (9, 0, 99, 99)])
+    inside = random_source.randrange(count + 1)
+    place = random_source.choice(
+        [0, max(count - 1, 0), count, count + 1, inside, inside, inside])
+    if sort == "X":
+        return (place,)
+    return place, random_source.choice(b"AAACCGTN@\0\xff")
+
+
+def sorts_of_calls(random_source, preferences):
+    """Without end, in runs that prefer one sort: so changes come to stand up
+    to 64, and letters to be 1,000 or none."""
+    while True:
+        preferred = random_source.choice(preferences)
+        for _ in range(random_source.choice([3, 10, 30, 70])):
+            other = random_source.choice("LIXMBA")
+            yield random_source.choice([preferred, preferred, other])
+
+
+def check_calls(random_source, case, preferences, rounds):
+    """So many calls on one sheet, and all that came of them."""
     letters, map_name, name = case
-    sheet = Sheet(letters, INSPECT_MAPS[map_name], ALPHABETS[name], 1, 1, 0, 0)
-    numbers = set()
-    for index in range(rounds):
-        place = random_source.randrange(len(letters) + 1)
-        letter = random_source.choice(b"ACGTN@\0\xff")
-        wanted = first_fault(letter_tests(sheet, place, letter, name))
-        must_agree("letter call", (case, place, letter), wanted,
-                   number_of(sheet.change_letter, place, letter))
-        numbers.add(wanted)
-        if index % 97 > 90:
-            number_of(random_source.choice([sheet.take_back, sheet.put_again]))
-        must_agree("letters", case, sheet.letters,
-                   letters_from(letters, sheet.standing))
-        # What an opening would refuse would be 24.
-        must_agree("bounds", case, 0, number_of(
-            Sheet, bytes(sheet.letters), sheet.letter_map, sheet.alphabet,
-            *sheet.limits))
-    return numbers
+    limits = 1, 1, 0, 0
+    sheet = Sheet(letters, INSPECT_MAPS[map_name], ALPHABETS[name], *limits)
+    followed = Followed(letters, limits)
+    seen = set()
+    sorts = sorts_of_calls(random_source, preferences)
+    for sort in itertools.islice(sorts, rounds):
+        numbers = any_numbers(random_source, sort, followed.count())
+        seen |= check_call(sheet, followed, name, sort, numbers)
+        if followed.count() in (0, MOST_LETTERS):
+            seen.add((sort, "at", followed.count()))
+    return seen
 
 
-def check_random_letter_calls(random_source):
-    numbers = set()
-    for map_name, name, letters, _ in WRITTEN:
-        case = 4 * letters[:1], map_name, name
-        numbers |= check_letter_calls(random_source, case, 200)
-    must_agree("numbers of letter calls", "all cases", numbers, {0, 6, 7, 19})
+def all_that_comes_of_calls():
+    """Each refusal, each two of a list together, and each change that is made;
+    and each call that leaves no letters, and 1,000."""
+    wanted = {(sort, number) for sort, numbers in REFUSALS_OF_CALLS.items()
+              for number in numbers}
+    wanted |= {(sort,) + two for sort, numbers in REFUSALS_OF_CALLS.items()
+               for two in itertools.combinations(numbers, 2)}
+    wanted |= {(sort, sort) for sort in "LMIX"}
+    wanted |= {(sort, shown) for sort in "BA" for shown in "LMIX"}
+    return wanted | {(sort, "at", count) for sort in "LMIXBA"
+                     for count in (0, MOST_LETTERS)}
+
+
+def check_random_calls(random_source):
+    """All maps and alphabets with few letters, and some with nearly 1,000."""
+    cases = [((length * letters[:1], map_name, name), "LIIIXXXMBBAA")
+             for map_name, name, letters, _ in WRITTEN for length in (0, 4)]
+    cases += [((length * b"A", map_name, name), "LLIIIMMBA")
+              for length, map_name, name in (
+                  (1000, b"I", b"*"), (1000, b"C", b"D"), (990, b"Y", b"*"),
+                  (960, b"I", b"O"), (940, b"C", b"N"))]
+    seen, rounds = set(), 400
+    for case, preferences in cases:
+        seen |= check_calls(random_source, case, preferences, rounds)
+    missing = sorted(all_that_comes_of_calls() ^ seen, key=repr)
+    must_agree("missing or strange outcomes", "all calls", missing, [])
+    return rounds * len(cases)
 
 
 def run():
@@ -505,7 +683,8 @@ def run():
     count = check_every_small_string()
     count += check_random_strings(random_source, 600)
     file_count = check_random_files(random_source, 1500)
-    check_random_letter_calls(random_source)
+    calls = check_random_calls(random_source)
     stops = check_all_stops(random_source, 100)
-    print("self-check: %d spans, %d tilings, %d files and %d stops agree, and "
-          "all maps with all alphabets" % (spans, count, file_count, stops))
+    print("self-check: %d spans, %d tilings, %d files, %d calls and %d stops "
+          "agree, and all maps with all alphabets"
+          % (spans, count, file_count, calls, stops))

@@ -1,6 +1,7 @@
 """Texts written out by hand from 01 and request L1 (02): lines beside the
 replies that these and their readings settle. No program made any of them.
-Those of request L2 are in alphabet_texts.py, those of L3 in stop_texts.py."""
+Those of request L2 are in alphabet_texts.py, those of L3 in stop_texts.py,
+those of L4 in map_texts.py, those of L5 in place_texts.py."""
 
 EXAMPLE_INPUT = b"""O 1 2 2 0 I TACCATG
 Q

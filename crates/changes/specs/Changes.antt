@@ -1,31 +1,60 @@
--- Changes and edits (01, "The sheet"). A change keeps what it replaced; an edit is what is done to letters or limits, forward or back.
-use mathlib.Core.Bool.{Bool, _&&_}
-use mathlib.Core.List.{List}
-use Prim.Native.Nat.{ℕ}
-use lib.Dec.{eqb, ltb}
+-- Changes and edits (01, "The sheet"; 02, L5). A change keeps what it replaced; an edit is what is done to letters or limits, forward or back.
+use mathlib.Core.Bool.{Bool, not, _&&_}
+use mathlib.Core.List.{List, [], _∷_}
+use Prim.Native.Nat.{ℕ, _+_, _-_}
+use lib.Dec.{eqb, leb, ltb}
+use Rattle.terms.specs.Sizes.{mostLetters}
 use Rattle.terms.specs.Refusals.{firstFault}
 use Rattle.terms.specs.Alphabets.{isIn}
 use Rattle.terms.specs.Limits.{limitsFaults}
+use Rattle.terms.specs.declared.limits.Limits.{Limits as Limits·}
 use Rattle.changes.specs.declared.Change.{Change}
-use Rattle.changes.specs.declared.Change.the-variants.{Letter as ChangedLetter, Limits as ChangedLimits}
+use Rattle.changes.specs.declared.Change.the-variants.{Letter as ChangedLetter, Limits as ChangedLimits, PutIn as DidPutIn, TakeOut as DidTakeOut}
 use Rattle.changes.specs.declared.Edit.{Edit}
-use Rattle.changes.specs.declared.Edit.the-variants.{Letter, Limits}
+use Rattle.changes.specs.declared.Edit.the-variants.{Letter, Limits, PutIn, TakeOut}
 
 -- What a change does.
 abbrev pub doneOf : Change → Edit
 doneOf (ChangedLetter p old new) = Letter p new
 doneOf (ChangedLimits old new) = Limits new
+doneOf (DidPutIn p b) = PutIn p b
+doneOf (DidTakeOut p b) = TakeOut p
 
--- What takes it back: it restores what was replaced.
+-- What takes it back: it restores what was replaced; a letter put in is taken out, a letter taken out is put in where it stood.
 abbrev pub backOf : Change → Edit
 backOf (ChangedLetter p old new) = Letter p old
 backOf (ChangedLimits old new) = Limits old
+backOf (DidPutIn p b) = TakeOut p
+backOf (DidTakeOut p b) = PutIn p b
 
--- Its call would not refuse the edit's place (6), letter (19) or limits (4, 5), on n letters of the alphabet z.
+-- The number of letters after an edit of n letters, and the limits after an edit.
+abbrev pub lengthBy : Edit → ℕ → ℕ
+lengthBy (Letter p b) n = n
+lengthBy (Limits l) n = n
+lengthBy (PutIn p b) n = n + 1
+lengthBy (TakeOut p) n = n - 1
+
+abbrev pub limitsBy : Edit → Limits· → Limits·
+limitsBy (Letter p b) l = l
+limitsBy (Limits l′) l = l′
+limitsBy (PutIn p b) l = l
+limitsBy (TakeOut p) l = l
+
+-- 19 for one letter: it is not of the alphabet z.
+unfoldable pub letterFault : List ℕ → ℕ → List (ℕ × Bool)
+letterFault z b = (19, not (isIn z b)) ∷ []
+
+-- What its call refuses of the edit, on n letters of the alphabet z, in testing order. Letter: 6, 19. Limits: 4, 5. Put in before place p, up to n: 6, 1, 19. Take out: 6.
+unfoldable pub editFaults : ℕ → List ℕ → Edit → List (ℕ × Bool)
+editFaults n z (Letter p b) = (6, leb n p) ∷ letterFault z b
+editFaults n z (Limits l) = limitsFaults l
+editFaults n z (PutIn p b) = (6, ltb n p) ∷ (1, leb mostLetters n) ∷ letterFault z b
+editFaults n z (TakeOut p) = (6, leb n p) ∷ []
+
+-- Its call would refuse nothing of it.
 unfoldable pub accepts : ℕ → List ℕ → Edit → Bool
-accepts n z (Letter p b) = ltb p n && isIn z b
-accepts n z (Limits l) = eqb (firstFault (limitsFaults l)) 0
+accepts n z e = eqb (firstFault (editFaults n z e)) 0
 
--- Nor those of a kept change, old or new.
-unfoldable pub acceptsChange : ℕ → List ℕ → Change → Bool
-acceptsChange n z c = accepts n z (doneOf c) && accepts n z (backOf c)
+-- Nor, of n letters, the one edit and, of those it leaves, the other.
+unfoldable pub acceptsThen : ℕ → List ℕ → Edit → Edit → Bool
+acceptsThen n z e f = accepts n z e && accepts (lengthBy e n) z f

@@ -1,34 +1,109 @@
 // Changes to a sheet: all go through one edit, made or taken back.
+use terms::LETTERS;
 use terms::alphabets::is_in;
 use terms::limits::Limits;
 ghost use mathlib.Core.Path.{_≡_};
-ghost use Rattle.changes.specs.Changes.{doneOf, backOf, accepts, acceptsChange};
+ghost use mathlib.Core.Bool.{true};
+ghost use Rattle.terms.specs.Refusals.{firstFault};
+ghost use Rattle.changes.specs.Changes.{doneOf, backOf, lengthBy, limitsBy, letterFault, editFaults, accepts, acceptsThen};
+ghost use Rattle.changes.specs.Work.{fits};
 
 // A change, with what it replaced.
 pub enum Change {
     Letter { place: usize, old: u8, new: u8 },
     Limits { old: Limits, new: Limits },
+    PutIn { place: usize, byte: u8 },
+    TakeOut { place: usize, byte: u8 },
 }
 
 // What a change does, or what takes it back.
 pub enum Edit {
     Letter { place: usize, byte: u8 },
     Limits { limits: Limits },
+    PutIn { place: usize, byte: u8 },
+    TakeOut { place: usize },
+}
+
+// What refusal 19 says of one letter: 19, or 0 where the byte is of the alphabet.
+fn letter_refusal(byte: u8, alphabet: &[u8]) -> usize
+    ensures { λ r. ⌜ r ≡ firstFault (letterFault (now (alphabet .entry)) byte) ⌝ }
+{
+    if is_in(alphabet, byte) {
+        return 0;
+    }
+    19
 }
 
 impl Edit {
-    // Whether its call would accept the edit, on n letters of the alphabet.
-    pub fn accepted(self, n: usize, alphabet: &[u8]) -> bool
-        ensures { λ r. ⌜ r ≡ accepts n (now (alphabet .entry)) self ⌝ }
+    // The first refusal that its call has of the edit, on n letters of the alphabet, 0 where there is none.
+    pub fn refusal(self, n: usize, alphabet: &[u8]) -> usize
+        ensures { λ r. ⌜ r ≡ firstFault (editFaults n (now (alphabet .entry)) self) ⌝ }
     {
         match self {
             Edit::Letter { place, byte } => {
                 if n <= place {
-                    return false;
+                    return 6;
                 }
-                is_in(alphabet, byte)
+                letter_refusal(byte, alphabet)
             }
-            Edit::Limits { limits } => limits.refusal() == 0,
+            Edit::Limits { limits } => limits.refusal(),
+            Edit::PutIn { place, byte } => {
+                if n < place {
+                    return 6;
+                }
+                if LETTERS <= n {
+                    return 1;
+                }
+                letter_refusal(byte, alphabet)
+            }
+            Edit::TakeOut { place } => {
+                if place < n {
+                    return 0;
+                }
+                6
+            }
+        }
+    }
+
+    // Whether its call would accept the edit, on n letters of the alphabet.
+    pub fn accepted(self, n: usize, alphabet: &[u8]) -> bool
+        ensures { λ r. ⌜ r ≡ accepts n (now (alphabet .entry)) self ⌝ }
+    {
+        self.refusal(n, alphabet) == 0
+    }
+
+    // Whether the edit would be accepted on n letters of the alphabet, and then the other on those it leaves.
+    pub fn accepted_then(self, other: Edit, n: usize, alphabet: &[u8]) -> bool
+        ensures { λ r. ⌜ r ≡ acceptsThen n (now (alphabet .entry)) self other ⌝ }
+    {
+        if !self.accepted(n, alphabet) {
+            return false;
+        }
+        other.accepted(self.length_after(n), alphabet)
+    }
+
+    // The number of letters after the edit, of n letters.
+    pub fn length_after(self, n: usize) -> usize
+        requires { ⌜ fits n self ≡ true ⌝ }
+        ensures { λ r. ⌜ r ≡ lengthBy self n ⌝ }
+    {
+        match self {
+            Edit::Letter { place: _, byte: _ } => n,
+            Edit::Limits { limits: _ } => n,
+            Edit::PutIn { place: _, byte: _ } => n + 1,
+            Edit::TakeOut { place: _ } => n - 1,
+        }
+    }
+
+    // The limits after the edit.
+    pub fn limits_after(self, limits: Limits) -> Limits
+        ensures { λ r. ⌜ r ≡ limitsBy self limits ⌝ }
+    {
+        match self {
+            Edit::Letter { place: _, byte: _ } => limits,
+            Edit::Limits { limits: asked } => asked,
+            Edit::PutIn { place: _, byte: _ } => limits,
+            Edit::TakeOut { place: _ } => limits,
         }
     }
 }
@@ -41,6 +116,8 @@ impl Change {
         match self {
             Change::Letter { place, old: _, new } => Edit::Letter { place, byte: new },
             Change::Limits { old: _, new } => Edit::Limits { limits: new },
+            Change::PutIn { place, byte } => Edit::PutIn { place, byte },
+            Change::TakeOut { place, byte: _ } => Edit::TakeOut { place },
         }
     }
 
@@ -51,18 +128,8 @@ impl Change {
         match self {
             Change::Letter { place, old, new: _ } => Edit::Letter { place, byte: old },
             Change::Limits { old, new: _ } => Edit::Limits { limits: old },
+            Change::PutIn { place, byte: _ } => Edit::TakeOut { place },
+            Change::TakeOut { place, byte } => Edit::PutIn { place, byte },
         }
-    }
-
-    // Whether its call would accept the change, old and new, on n letters of the alphabet.
-    pub fn accepted(self, n: usize, alphabet: &[u8]) -> bool
-        ensures { λ r. ⌜ r ≡ acceptsChange n (now (alphabet .entry)) self ⌝ }
-    {
-        let done = self.done();
-        if !done.accepted(n, alphabet) {
-            return false;
-        }
-        let back = self.back();
-        back.accepted(n, alphabet)
     }
 }

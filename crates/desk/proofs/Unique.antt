@@ -16,7 +16,7 @@ use Rattle.sheet.specs.Bounds.{textOf}
 use Rattle.sheet.specs.declared.Sheet.{Sheet}
 use Rattle.sheet.proofs.Asked.{sheet-laws}
 use Rattle.lines.specs.declared.Line.{Line}
-use Rattle.lines.specs.declared.Line.the-variants.{Open, Letter, Limits, TakeBack, PutAgain, Question, Unknown}
+use Rattle.lines.specs.declared.Line.the-variants.{Open, Change, TakeBack, PutAgain, Question, Unknown}
 use Rattle.lines.proofs.Reading.{one-reading}
 use Rattle.replies.specs.Replies.{refusalText, tilingText}
 use Rattle.desk.specs.declared.Desk.{Desk}
@@ -51,8 +51,7 @@ settled t t′ t″ m m′ m″ o o′ w p q = (p .0 ∙ sym (q .0), p .1 .0 ∙
 
 does-one : (d : Desk) (xs : List ℕ) (line : Line) (t t′ t″ m m′ m″ : List ℕ) (o o′ : Desk × List ℕ) → Does d xs line t t′ m m′ o → Does d xs line t t″ m m″ o′ → Same o o′ t′ t″ m′ m″
 does-one d xs (Open l c from) t t′ t″ m m′ m″ o o′ p q = settled t t′ t″ m m′ m″ o o′ _ p q
-does-one d xs (Letter a b) t t′ t″ m m′ m″ o o′ p q = settled t t′ t″ m m′ m″ o o′ _ p q
-does-one d xs (Limits l) t t′ t″ m m′ m″ o o′ p q = settled t t′ t″ m m′ m″ o o′ _ p q
+does-one d xs (Change e) t t′ t″ m m′ m″ o o′ p q = settled t t′ t″ m m′ m″ o o′ _ p q
 does-one d xs TakeBack t t′ t″ m m′ m″ o o′ p q = settled t t′ t″ m m′ m″ o o′ _ p q
 does-one d xs PutAgain t t′ t″ m m′ m″ o o′ p q = settled t t′ t″ m m′ m″ o o′ _ p q
 does-one d xs Unknown t t′ t″ m m′ m″ o o′ p q = settled t t′ t″ m m′ m″ o o′ _ p q

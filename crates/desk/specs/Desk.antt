@@ -13,7 +13,7 @@ use Rattle.boards.specs.Pieces.{board}
 use Rattle.questions.specs.Tiling.{figures}
 use Rattle.questions.specs.declared.Answer.{Answer}
 use Rattle.sheet.specs.Bounds.{textOf}
-use Rattle.sheet.specs.Calls.{numberOf, letterCall, limitsCall, takeBackCall, putAgainCall, openCall, blankSheet}
+use Rattle.sheet.specs.Calls.{numberOf, changeCall, takeBackCall, putAgainCall, openCall, blankSheet}
 use Rattle.sheet.specs.Question.{SheetReply}
 use Rattle.sheet.specs.declared.Said.{Said}
 use Rattle.sheet.specs.declared.Sheet.{Sheet}
@@ -21,7 +21,7 @@ use Rattle.sheet.specs.declared.Reply.{Reply}
 use Rattle.printing.specs.Printing.{Put}
 use Rattle.lines.specs.Lines.{Reads}
 use Rattle.lines.specs.declared.Line.{Line}
-use Rattle.lines.specs.declared.Line.the-variants.{Open, Letter, Limits as NewLimits, TakeBack, PutAgain, Question, Unknown}
+use Rattle.lines.specs.declared.Line.the-variants.{Open, Change, TakeBack, PutAgain, Question, Unknown}
 use Rattle.replies.specs.Replies.{refusalText, saidText, restoredText, tilingText}
 use Rattle.desk.specs.declared.Desk.{Desk}
 use Rattle.desk.specs.declared.Turn.{Turn}
@@ -60,8 +60,7 @@ Stay table table′ room room′ = (table′ ≡ table) × (room′ ≡ room)
 -- What a line brings about: the desk afterwards and the text of its reply, with table and room as lent and as left.
 abbrev pub Does : Desk → List ℕ → Line → List ℕ → List ℕ → List ℕ → List ℕ → Desk × List ℕ → Type 0
 Does d xs (Open l c from) t t′ m m′ o = (o ≡ opening d (openCall (textAll (drop from xs) (mapOf c)) l)) × Stay t t′ m m′
-Does d xs (Letter p b) t t′ m m′ o = (o ≡ calling d (letterCall (d .sheet) p b) saidText) × Stay t t′ m m′
-Does d xs (NewLimits l) t t′ m m′ o = (o ≡ calling d (limitsCall (d .sheet) l) saidText) × Stay t t′ m m′
+Does d xs (Change e) t t′ m m′ o = (o ≡ calling d (changeCall (d .sheet) e) saidText) × Stay t t′ m m′
 Does d xs TakeBack t t′ m m′ o = (o ≡ calling d (takeBackCall (d .sheet)) (restoredText 66)) × Stay t t′ m m′
 Does d xs PutAgain t t′ m m′ o = (o ≡ calling d (putAgainCall (d .sheet)) (restoredText 65)) × Stay t t′ m m′
 Does d xs Question t t′ m m′ o =

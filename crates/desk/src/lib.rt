@@ -1,4 +1,5 @@
 // The desk: one line in, one reply out, over 'no sheet yet' or a sheet.
+use changes::Edit;
 use lines::Line;
 use printing::put_line;
 use replies::number_of;
@@ -14,7 +15,7 @@ use terms::maps;
 ghost use mathlib.Core.Path.{_≡_};
 ghost use mathlib.Core.Bool.{true};
 ghost use Rattle.terms.specs.Texts.{textAll};
-ghost use Rattle.sheet.specs.Calls.{openCall, letterCall, limitsCall, takeBackCall, putAgainCall};
+ghost use Rattle.sheet.specs.Calls.{openCall, changeCall, takeBackCall, putAgainCall};
 ghost use Rattle.replies.specs.Replies.{saidText, restoredText, refusalText};
 ghost use Rattle.desk.specs.Desk.{newDesk, withSheet, mapOf, opening, calling, DeskReply};
 ghost use Rattle.desk.specs.Work.{Turned, AskedOf};
@@ -115,26 +116,15 @@ impl Desk {
         }
     }
 
-    // A letter call, or 14.
-    fn letter(self, place: usize, byte: u8, out: &mut [u8]) -> Turn
-        ensures { λ r. ⌜ Turned (calling self (letterCall (self .sheet) place byte) saidText) (now (out .entry)) (now (out .exit)) r ⌝ }
+    // A call for a change, or 14.
+    fn change(self, e: Edit, out: &mut [u8]) -> Turn
+        ensures { λ r. ⌜ Turned (calling self (changeCall (self .sheet) e) saidText) (now (out .entry)) (now (out .exit)) r ⌝ }
     {
         if !self.opened {
             return self.refused(14, out);
         }
         let sheet = self.sheet;
-        said(sheet.put_letter(place, byte), out)
-    }
-
-    // A limits call, or 14.
-    fn limits(self, limits: Limits, out: &mut [u8]) -> Turn
-        ensures { λ r. ⌜ Turned (calling self (limitsCall (self .sheet) limits) saidText) (now (out .entry)) (now (out .exit)) r ⌝ }
-    {
-        if !self.opened {
-            return self.refused(14, out);
-        }
-        let sheet = self.sheet;
-        said(sheet.put_limits(limits), out)
+        said(sheet.ask(e), out)
     }
 
     // A take-back, or 14.
@@ -196,8 +186,7 @@ impl Desk {
                 let n = line.len();
                 self.open(limits, complement, &line[from..n], out)
             }
-            Line::Letter { place, byte } => self.letter(place, byte, out),
-            Line::Limits { limits } => self.limits(limits, out),
+            Line::Change { edit } => self.change(edit, out),
             Line::TakeBack => self.take_back(out),
             Line::PutAgain => self.put_again(out),
             Line::Question => self.question(table, room, out),

@@ -1,98 +1,149 @@
 -- What holds of each kind of edit: the only file that goes by the kinds. Assumes nothing.
-use mathlib.Core.Path.{_≡_, refl, sym, ap, _∙_}
+use mathlib.Core.Path.{_≡_, refl, sym, ap, ap₂, _∙_}
 use mathlib.Core.Bool.{true}
-use mathlib.Core.List.{List}
-use Prim.Native.Nat.{ℕ, _<_}
+use mathlib.Core.List.{List, _∷_, _++_}
+use Prim.Native.Nat.{ℕ, suc, _+_, _-_, _≤_, _<_}
+use native.Mathlib.Numerals.{add-one}
 use native.Mathlib.Omega.{arith}
-use borrow.Author.Tests.{eqb-true, eq-eqb, ltb-true, lt-ltb}
-use lib.Dec.{ltb}
-use lib.ListN.{getD, set, take, length-set}
-use lib.Seq.{getD-set-same, set-set, set-getD, take-set-lt}
+use lib.ListN.{getD, set, length, take, drop, length-set, take-append-drop}
+use lib.Seq.{getD-set-same, set-set, set-getD, length-take-le, getD-at, split-at, take-at, drop-at, drop-drop}
 use Rattle.terms.specs.Refusals.{firstFault}
 use Rattle.terms.specs.Alphabets.{isIn}
 use Rattle.terms.specs.Limits.{limitsFaults}
 use Rattle.terms.specs.Texts.{text, size, openingFaults}
-use Rattle.terms.proofs.Below.{and-yes, and-left, and-right}
-use Rattle.changes.specs.Changes.{doneOf, backOf, accepts, acceptsChange}
+use Rattle.changes.specs.Changes.{doneOf, backOf, lengthBy, accepts}
+use Rattle.changes.specs.Work.{fits}
 use Rattle.changes.specs.declared.Edit.{Edit}
-use Rattle.changes.specs.declared.Edit.the-variants.{Letter, Limits}
-use Rattle.sheet.specs.Bounds.{textOf}
-use Rattle.sheet.specs.Calls.{lettersBy, limitsBy, applied, replacing}
+use Rattle.changes.specs.declared.Edit.the-variants.{Letter, Limits, PutIn, TakeOut}
+use Rattle.changes.proofs.Accepting.{letter-in, put-in-letter, letter-accepted, put-in-accepted, take-out-accepted, limits-accepted, accepted-limits, accepts-fits, fits-letter, fits-in, fits-out}
+use Rattle.shifts.specs.Shifts.{putIn, takeOut, placesPutIn, placesTakeOut, replacing}
+use Rattle.places.specs.Places.{padded}
+use Rattle.kept.specs.declared.Kept.{Kept}
+use Rattle.sheet.specs.Calls.{applied}
 use Rattle.sheet.specs.declared.Sheet.{Sheet}
-use Rattle.sheet.proofs.Within.{opening}
-use Rattle.sheet.proofs.Replying.{place-inside}
 use Rattle.history.specs.History.{Content, make, back, sayBack}
-use Rattle.history.proofs.Padding.{padded-set, Holds, letter-at}
-use Rattle.history.proofs.Writing.{opening-parts, limits-open, letter-opens}
+use Rattle.history.proofs.Spelling.{spells-set, spells-in, spells-out}
+use Rattle.history.proofs.Padding.{padded-set, length-in, length-out, padded-in, padded-out, Holds, letter-at}
+use Rattle.history.proofs.Writing.{limits-open, letters-open}
+
+-- a letter put in and taken out, or taken out and put in, leaves the string
+out-in : (x : List ℕ) (p b : ℕ) → p ≤ length x → takeOut (putIn x p b) p ≡ x
+out-in x p b h =
+    let k : length (take p x) ≡ p = length-take-le p x h in
+    let d : drop (suc p) (putIn x p b) ≡ drop p x
+    = sym (ap (λ (j : ℕ). drop j (putIn x p b)) (add-one p)) ∙ sym (drop-drop 1 p (putIn x p b)) ∙ ap (drop 1) (drop-at (take p x) (b ∷ drop p x) p k) in
+    ap₂ _++_ (take-at (take p x) (b ∷ drop p x) p k) d ∙ take-append-drop p x
+
+in-out : (x : List ℕ) (p : ℕ) → p < length x → putIn (takeOut x p) p (getD x p 0) ≡ x
+in-out x p h =
+    let k : length (take p x) ≡ p = length-take-le p x (omega arith) in
+    ap₂ (λ (y z : List ℕ). y ++ getD x p 0 ∷ z) (take-at (take p x) (drop (suc p) x) p k) (drop-at (take p x) (drop (suc p) x) p k) ∙ sym (split-at x p 0 h)
+
+-- the content with other letters
+abbrev holding : Content → List ℕ → Content
+holding c x = record { text = text x (c .text .map) (c .text .alphabet); limits = c .limits }
 
 -- an edit made, and the edit that takes it back
-pub make-back : (c : Content) (e : Edit) → make (back c e) (make e c) ≡ c
-make-back c (Letter p b) =
-    ap (λ (x : List ℕ). record { text = text x (c .text .map) (c .text .alphabet); limits = c .limits })
-    (set-set (c .text .letters) p b (getD (c .text .letters) p 0) ∙ set-getD (c .text .letters) p 0)
-make-back c (Limits l) = refl
+pub make-back : (c : Content) (e : Edit) → fits (size (c .text)) e ≡ true → make (back c e) (make e c) ≡ c
+make-back c (Letter p b) f =
+    ap (holding c) (set-set (c .text .letters) p b (getD (c .text .letters) p 0) ∙ set-getD (c .text .letters) p 0)
+make-back c (Limits l) f = refl
+make-back c (PutIn p b) f = ap (holding c) (out-in (c .text .letters) p b (fits-in _ p b f .0))
+make-back c (TakeOut p) f = ap (holding c) (in-out (c .text .letters) p (fits-out _ p f))
 
 -- an edit touches neither map nor alphabet
 pub make-keeps : (e : Edit) (c : Content) → (make e c .text .map ≡ c .text .map) × (make e c .text .alphabet ≡ c .text .alphabet)
 make-keeps (Letter p b) c = (refl, refl)
 make-keeps (Limits l) c = (refl, refl)
+make-keeps (PutIn p b) c = (refl, refl)
+make-keeps (TakeOut p) c = (refl, refl)
+
+-- the first refusal of an opening with a content; an edit that its call would accept leaves none where there was none
+abbrev pub faultOf : Content → ℕ
+faultOf c = firstFault (openingFaults (c .text) (c .limits))
+
+pub make-opens : (c : Content) (e : Edit) → size (c .text) ≤ 1000 → accepts (size (c .text)) (c .text .alphabet) e ≡ true → faultOf c ≡ 0 → faultOf (make e c) ≡ 0
+make-opens c (Letter p b) few a =
+    let n : length (set (c .text .letters) p b) ≡ size (c .text) = length-set (c .text .letters) p b in
+    letters-open (c .text) (c .limits) _ (omega arith) (spells-set (c .text .alphabet) (c .text .letters) p b (letter-in _ _ p b a))
+make-opens c (Limits l) few a = λ o. limits-open (c .text) (c .limits) l o (accepted-limits _ _ l a)
+make-opens c (PutIn p b) few a =
+    let h = fits-in _ p b (accepts-fits _ _ (PutIn p b) a) in
+    let n : length (putIn (c .text .letters) p b) ≡ size (c .text) + 1 = length-in (c .text .letters) p b (h .0) in
+    letters-open (c .text) (c .limits) _ (omega arith) (spells-in (c .text .alphabet) (c .text .letters) p b (h .0) (put-in-letter _ _ p b a))
+make-opens c (TakeOut p) few a =
+    let h = fits-out _ p (accepts-fits _ _ (TakeOut p) a) in
+    let n : length (takeOut (c .text .letters) p) ≡ size (c .text) - 1 = length-out (c .text .letters) p h in
+    letters-open (c .text) (c .limits) _ (omega arith) (spells-out (c .text .alphabet) (c .text .letters) p h)
 
 -- on a sheet that holds a content: an edit made of the one is made of the other, what is said is so, and what takes it back is kept
 module _ {s : Sheet} {c : Content} (H : Holds s c) where
-  pub applied-holds : (e : Edit) (st tk : ℕ) → accepts (s .n) (s .alphabet) e ≡ true → Holds (applied s e st tk .sheet) (make e c)
-  unfolding applied
-  applied-holds (Letter p b) st tk a =
-      let h : p < s .n = place-inside (s .n) (s .alphabet) p b a in
-      let n : s .n ≡ size (c .text) = H .n in
-      record {
-        letters = ap (λ (x : List ℕ). set x p b) (H .letters) ∙ padded-set (c .text .letters) p (omega arith) b;
-        n = n ∙ sym (length-set (c .text .letters) p b);
-        map = H .map;
-        alphabet = H .alphabet;
-        limits = H .limits;
-      }
-  applied-holds (Limits l) st tk a = record { letters = H .letters; n = H .n; map = H .map; alphabet = H .alphabet; limits = refl }
+  -- the sheet with other letters, n of them, holds the content with them
+  letters-hold : (a x : List ℕ) (n : ℕ) (ks : List Kept) (st tk : ℕ) → a ≡ padded x → n ≡ length x
+      → Holds (record { letters = a; n = n; map = s .map; alphabet = s .alphabet; limits = s .limits; kept = ks; standing = st; taken = tk }) (holding c x)
+  letters-hold a x n ks st tk p q = record { letters = p; n = q; map = H .map; alphabet = H .alphabet; limits = H .limits }
 
-  pub applied-says : (e : Edit) (st tk : ℕ) → accepts (s .n) (s .alphabet) e ≡ true → applied s e st tk .said ≡ sayBack e c (make e c) st
+  pub applied-holds : (e : Edit) (st tk : ℕ) → s .n ≤ 1000 → fits (s .n) e ≡ true → Holds (applied s e st tk .sheet) (make e c)
   unfolding applied
-  applied-says (Letter p b) st tk a =
-      let h : p < s .n = place-inside (s .n) (s .alphabet) p b a in
+  applied-holds (Letter p b) st tk few f =
+      let h : p < s .n = fits-letter (s .n) p b f in
+      let n : s .n ≡ size (c .text) = H .n in
+      letters-hold _ _ _ _ st tk (ap (λ (x : List ℕ). set x p b) (H .letters) ∙ padded-set (c .text .letters) p (omega arith) b) (n ∙ sym (length-set (c .text .letters) p b))
+  applied-holds (Limits l) st tk few f = record { letters = H .letters; n = H .n; map = H .map; alphabet = H .alphabet; limits = refl }
+  applied-holds (PutIn p b) st tk few f =
+      let h = fits-in (s .n) p b f in
+      let n : s .n ≡ size (c .text) = H .n in
+      letters-hold _ _ _ _ st tk (ap₂ (λ (x : List ℕ) (k : ℕ). placesPutIn x k p b) (H .letters) n ∙ padded-in (c .text .letters) p b (omega arith) (omega arith))
+      (ap (λ (k : ℕ). k + 1) n ∙ sym (length-in (c .text .letters) p b (omega arith)))
+  applied-holds (TakeOut p) st tk few f =
+      let h : p < s .n = fits-out (s .n) p f in
+      let n : s .n ≡ size (c .text) = H .n in
+      letters-hold _ _ _ _ st tk (ap₂ (λ (x : List ℕ) (k : ℕ). placesTakeOut x k p) (H .letters) n ∙ padded-out (c .text .letters) p (omega arith) (omega arith))
+      (ap (λ (k : ℕ). k - 1) n ∙ sym (length-out (c .text .letters) p (omega arith)))
+
+  pub applied-says : (e : Edit) (st tk : ℕ) → fits (s .n) e ≡ true → applied s e st tk .said ≡ sayBack e c (make e c) st
+  unfolding applied replacing
+  applied-says (Letter p b) st tk f =
+      let h : p < s .n = fits-letter (s .n) p b f in
       let n : s .n ≡ size (c .text) = H .n in
       let old : getD (s .letters) p 0 ≡ getD (c .text .letters) p 0 = letter-at H p h in
       let new : getD (set (c .text .letters) p b) p 0 ≡ b = getD-set-same (c .text .letters) p b 0 (omega arith) in
       cc
-  applied-says (Limits l) st tk a = refl
+  applied-says (Limits l) st tk f = refl
+  applied-says (PutIn p b) st tk f =
+      let h = fits-in (s .n) p b f in
+      let n : s .n ≡ size (c .text) = H .n in
+      let k : length (take p (c .text .letters)) ≡ p = length-take-le p (c .text .letters) (omega arith) in
+      let new : getD (putIn (c .text .letters) p b) p 0 ≡ b = getD-at (take p (c .text .letters)) b (drop p (c .text .letters)) 0 p k in
+      let m : s .n + 1 ≡ length (putIn (c .text .letters) p b) = ap (λ (j : ℕ). j + 1) n ∙ sym (length-in (c .text .letters) p b (omega arith)) in
+      cc
+  applied-says (TakeOut p) st tk f =
+      let h : p < s .n = fits-out (s .n) p f in
+      let n : s .n ≡ size (c .text) = H .n in
+      let old : getD (s .letters) p 0 ≡ getD (c .text .letters) p 0 = letter-at H p h in
+      let m : s .n - 1 ≡ length (takeOut (c .text .letters) p) = ap (λ (j : ℕ). j - 1) n ∙ sym (length-out (c .text .letters) p (omega arith)) in
+      cc
 
-  pub replacing-back : (e : Edit) → accepts (s .n) (s .alphabet) e ≡ true → backOf (replacing s e) ≡ back c e
+  pub replacing-back : (e : Edit) → fits (s .n) e ≡ true → backOf (replacing e (s .letters) (s .limits)) ≡ back c e
   unfolding replacing
-  replacing-back (Letter p b) a = ap (Letter p) (letter-at H p (place-inside (s .n) (s .alphabet) p b a))
-  replacing-back (Limits l) a = ap Limits (H .limits)
+  replacing-back (Letter p b) f = ap (Letter p) (letter-at H p (fits-letter (s .n) p b f))
+  replacing-back (Limits l) f = ap Limits (H .limits)
+  replacing-back (PutIn p b) f = refl
+  replacing-back (TakeOut p) f = ap (PutIn p) (letter-at H p (fits-out (s .n) p f))
 
-pub replacing-done : (s : Sheet) (e : Edit) → doneOf (replacing s e) ≡ e
+pub replacing-done : (s : Sheet) (e : Edit) → doneOf (replacing e (s .letters) (s .limits)) ≡ e
 unfolding replacing
 replacing-done s (Letter p b) = refl
 replacing-done s (Limits l) = refl
+replacing-done s (PutIn p b) = refl
+replacing-done s (TakeOut p) = refl
 
--- on a sheet that could be opened: an edit that its call would accept leaves it so, and the change kept is one that its call would accept
-module _ (s : Sheet) (o : opening s ≡ 0) where
-  now-limits : firstFault (limitsFaults (s .limits)) ≡ 0
-  now-limits = opening-parts (textOf s) (s .limits) o .1
-
-  pub opens-after : (e : Edit) → accepts (s .n) (s .alphabet) e ≡ true
-      → firstFault (openingFaults (text (take (s .n) (lettersBy e (s .letters))) (s .map) (s .alphabet)) (limitsBy e (s .limits))) ≡ 0
-  unfolding accepts
-  opens-after (Letter p b) a =
-      let h = ltb-true p (s .n) (and-left (ltb p (s .n)) (isIn (s .alphabet) b) a) in
-      rw (take-set-lt (s .n) (s .letters) p b h)
-      (letter-opens (textOf s) (s .limits) p b (and-right (ltb p (s .n)) (isIn (s .alphabet) b) a) o)
-  opens-after (Limits l) a = limits-open (textOf s) (s .limits) l o (eqb-true _ _ a)
-
-  module _ (old : (p : ℕ) → p < s .n → isIn (s .alphabet) (getD (s .letters) p 0) ≡ true) where
-    back-accepted : (e : Edit) → accepts (s .n) (s .alphabet) e ≡ true → accepts (s .n) (s .alphabet) (backOf (replacing s e)) ≡ true
-    unfolding replacing accepts
-    back-accepted (Letter p b) a = let h = place-inside (s .n) (s .alphabet) p b a in and-yes (ltb p (s .n)) _ (lt-ltb p (s .n) h) (old p h)
-    back-accepted (Limits l′) a = eq-eqb _ _ now-limits
-
-    pub replacing-accepted : (e : Edit) → accepts (s .n) (s .alphabet) e ≡ true → acceptsChange (s .n) (s .alphabet) (replacing s e) ≡ true
-    unfolding acceptsChange
-    replacing-accepted e a = and-yes _ _ (ap (accepts (s .n) (s .alphabet)) (replacing-done s e) ∙ a) (back-accepted e a)
+-- on a sheet with sound limits and letters of its alphabet: after an edit, its call would accept what takes the change back
+pub back-accepted : (s : Sheet) → firstFault (limitsFaults (s .limits)) ≡ 0 → s .n ≤ 1000 → ((p : ℕ) → p < s .n → isIn (s .alphabet) (getD (s .letters) p 0) ≡ true)
+    → (e : Edit) → fits (s .n) e ≡ true → accepts (lengthBy e (s .n)) (s .alphabet) (backOf (replacing e (s .letters) (s .limits))) ≡ true
+unfolding replacing
+back-accepted s l few old (Letter p b) f = let h : p < s .n = fits-letter (s .n) p b f in letter-accepted (s .n) (s .alphabet) p _ h (old p h)
+back-accepted s l few old (Limits l′) f = limits-accepted (s .n) (s .alphabet) (s .limits) l
+back-accepted s l few old (PutIn p b) f = let h = fits-in (s .n) p b f in take-out-accepted (s .n + 1) (s .alphabet) p (omega arith)
+back-accepted s l few old (TakeOut p) f =
+    let h : p < s .n = fits-out (s .n) p f in put-in-accepted (s .n - 1) (s .alphabet) p _ (omega arith) (omega arith) (old p h)

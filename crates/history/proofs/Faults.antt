@@ -1,9 +1,8 @@
 -- What the number said tells of a call's faults. Assumes nothing.
 use mathlib.Core.Path.{_≡_, refl, sym, _∙_}
 use mathlib.Core.Bool.{Bool, true, false, cond}
-use mathlib.Core.List.{List, _∷_}
-use Prim.Native.Nat.{ℕ, suc}
-use native.Mathlib.Omega.{arith}
+use mathlib.Core.List.{List}
+use Prim.Native.Nat.{ℕ}
 use borrow.Author.Tests.{eqb-true, eqb-false}
 use lib.Dec.{eqb}
 use Rattle.terms.specs.Refusals.{firstFault}
@@ -11,13 +10,7 @@ use Rattle.changes.specs.declared.Edit.{Edit}
 use Rattle.sheet.specs.Calls.{numberOf, refusing, answered}
 use Rattle.sheet.specs.declared.Reply.{Reply}
 use Rattle.sheet.specs.declared.Sheet.{Sheet}
-use Rattle.history.specs.History.{History, accept, refuse, decide}
-
--- a list without a fault: its first test fails, and the rest has none
-pub clear : (k : ℕ) (b : Bool) (ts : List (ℕ × Bool)) → firstFault ((suc k, b) ∷ ts) ≡ 0 → (b ≡ false) × (firstFault ts ≡ 0)
-unfolding firstFault
-clear k true ts e = absurd (omega arith)
-clear k false ts e = (refl, e)
+use Rattle.history.specs.History.{History, accept, refuse, faultsOf, decide}
 
 -- the number said is the first fault's
 module _ (fs : List (ℕ × Bool)) (s : Sheet) (r : Reply) (z : numberOf (r .said) ≡ 0) where
@@ -30,10 +23,10 @@ module _ (fs : List (ℕ × Bool)) (s : Sheet) (r : Reply) (z : numberOf (r .sai
   number-is = by-test (eqb (firstFault fs) 0) refl
 
 -- a change that the history says 0 of is accepted
-pub decide-accepts : (fs : List (ℕ × Bool)) (h : History) (e : Edit) → numberOf (decide fs h e .1) ≡ 0 → decide fs h e ≡ accept h e
-decide-accepts fs h e = go (eqb (firstFault fs) 0) refl
+pub decide-accepts : (h : History) (e : Edit) → numberOf (decide h e .1) ≡ 0 → decide h e ≡ accept h e
+decide-accepts h e = go (eqb (firstFault (faultsOf h e)) 0) refl
   where
-    go : (b : Bool) → eqb (firstFault fs) 0 ≡ b → numberOf (cond b (accept h e) (refuse h (firstFault fs)) .1) ≡ 0
-        → cond b (accept h e) (refuse h (firstFault fs)) ≡ accept h e
+    go : (b : Bool) → eqb (firstFault (faultsOf h e)) 0 ≡ b → numberOf (cond b (accept h e) (refuse h (firstFault (faultsOf h e))) .1) ≡ 0
+        → cond b (accept h e) (refuse h (firstFault (faultsOf h e))) ≡ accept h e
     go true q z = refl
     go false q z = absurd (eqb-false _ _ q z)

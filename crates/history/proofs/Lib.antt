@@ -1,6 +1,7 @@
 -- Demand 3 proved, and its example run.
 pub mod Lists
 pub mod Padding
+pub mod Spelling
 pub mod Writing
 pub mod Edits
 pub mod Bounded

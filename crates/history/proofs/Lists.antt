@@ -10,8 +10,8 @@ use Rattle.terms.proofs.Order.{le-or-lt}
 use Rattle.changes.specs.Changes.{doneOf}
 use Rattle.changes.specs.declared.Change.{Change}
 use Rattle.changes.specs.declared.Edit.{Edit}
-use Rattle.sheet.specs.Bounds.{noChange, keptAt}
-use Rattle.sheet.specs.declared.Kept.{Kept}
+use Rattle.kept.specs.Lists.{noChange, keptAt}
+use Rattle.kept.specs.declared.Kept.{Kept}
 use Rattle.history.specs.Runs.{standingFrom}
 
 module _ (ks : List Kept) where

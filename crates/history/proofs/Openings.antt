@@ -12,14 +12,14 @@ use Rattle.terms.specs.Alphabets.{allBytes, closedUnder, spelt, alphabetFaults}
 use Rattle.terms.specs.Limits.{limitsFaults, wrongKind, outOfRange, tooManyErrors}
 use Rattle.terms.specs.Texts.{Text, textAll, size, openingFaults}
 use Rattle.terms.specs.declared.limits.Limits.{Limits}
-use Rattle.terms.proofs.Below.{below-zero}
 use Rattle.terms.proofs.Supplied.{plain-passes}
 use Rattle.terms.proofs.Passed.{sound-opening}
 use Rattle.questions.specs.Tiling.{TilingReply}
 use Rattle.questions.specs.declared.Answer.{Answer}
 use Rattle.questions.proofs.Readers.{one-reply}
-use Rattle.changes.specs.Changes.{acceptsChange}
-use Rattle.sheet.specs.Bounds.{noChange, keptAt, inBounds}
+use Rattle.kept.specs.Lists.{noChange}
+use Rattle.kept.proofs.Walking.{go-none, kept-is}
+use Rattle.sheet.specs.Bounds.{inBounds}
 use Rattle.sheet.specs.Calls.{numberOf, opened, blankSheet, openCall}
 use Rattle.sheet.specs.Question.{SheetReply}
 use Rattle.sheet.specs.declared.Said.the-variants.{Opened}
@@ -50,8 +50,9 @@ module _ (x : Text) (l : Limits) where
   opened-invariant e =
       record {
         bounds =
-            within (opened x l) (sound-opening x l e .0 .short) (rw (padded-take (x .letters)) e) (omega arith)
-            ∙ below-zero (λ i. acceptsChange (size x) (x .alphabet) (keptAt (opened x l .kept) i));
+            within (opened x l) (sound-opening x l e .0 .short) (rw (padded-take (x .letters)) e)
+            ∙ kept-is _ _ _ 0 0 (omega arith) (go-none _ _)
+            ∙ go-none _ _;
         room = length-replicate 64 noChange;
         holds = record { letters = refl; n = refl; map = refl; alphabet = refl; limits = refl };
         restores = λ i h. absurd (omega arith);

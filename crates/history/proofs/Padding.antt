@@ -1,11 +1,13 @@
 -- A sheet that holds a content: its letters with zeros behind them. Assumes nothing.
 use mathlib.Core.Path.{_≡_, sym, ap, ap₂, _∙_}
-use mathlib.Core.List.{List, _++_}
-use Prim.Native.Nat.{ℕ, _-_, _<_}
+use mathlib.Core.List.{List, _∷_, _++_}
+use Prim.Native.Nat.{ℕ, suc, _+_, _-_, _≤_, _<_}
+use native.Mathlib.Numerals.{add-one}
 use native.Mathlib.Omega.{arith}
-use lib.ListN.{getD, set, length, take, replicate, length-set, List·getD-append}
-use lib.Seq.{set-append-left, take-append-seam}
+use lib.ListN.{getD, set, length, take, drop, replicate, length-set, length-append, length-drop, List·getD-append}
+use lib.Seq.{set-append-left, length-take-le, take-append-seam, drop-append-seam, drop-append-add}
 use Rattle.terms.specs.Texts.{size}
+use Rattle.shifts.specs.Shifts.{putIn, takeOut, placesPutIn, placesTakeOut}
 use Rattle.places.specs.Places.{padded}
 use Rattle.sheet.specs.declared.Sheet.{Sheet}
 use Rattle.history.specs.History.{Content}
@@ -26,6 +28,45 @@ module _ (x : List ℕ) where
     padded-at : getD (padded x) p 0 ≡ getD x p 0
     unfolding padded
     padded-at = List·getD-append x (replicate (1000 - length x) 0) 0 p h
+
+  -- a letter put in and one taken out
+  pub length-in : (p b : ℕ) → p ≤ length x → length (putIn x p b) ≡ length x + 1
+  length-in p b h =
+      let a : length (take p x) ≡ p = length-take-le p x h in
+      let d : length (drop p x) ≡ length x - p = length-drop p x in
+      length-append (take p x) (b ∷ drop p x) ∙ omega arith
+
+  pub length-out : (p : ℕ) → p < length x → length (takeOut x p) ≡ length x - 1
+  length-out p h =
+      let a : length (take p x) ≡ p = length-take-le p x (omega arith) in
+      let d : length (drop (suc p) x) ≡ length x - suc p = length-drop (suc p) x in
+      length-append (take p x) (drop (suc p) x) ∙ omega arith
+
+  padded-next : length x < 1000 → drop (suc (length x)) (padded x) ≡ replicate (1000 - (length x + 1)) 0
+  unfolding padded
+  padded-next k =
+      let m : 1000 - length x ≡ suc (1000 - (length x + 1)) = omega arith in
+      ap (λ (j : ℕ). drop (suc (length x)) (x ++ replicate j 0)) m
+      ∙ sym (ap (λ (j : ℕ). drop j (x ++ 0 ∷ replicate (1000 - (length x + 1)) 0)) (add-one (length x)))
+      ∙ drop-append-add x (0 ∷ replicate (1000 - (length x + 1)) 0) 1
+
+  padded-rest : drop (length x) (padded x) ≡ replicate (1000 - length x) 0
+  unfolding padded
+  padded-rest = drop-append-seam x (replicate (1000 - length x) 0)
+
+  pub padded-in : (p b : ℕ) → p ≤ length x → length x < 1000 → placesPutIn (padded x) (length x) p b ≡ padded (putIn x p b)
+  unfolding placesPutIn padded
+  padded-in p b h k =
+      ap₂ (λ (y z : List ℕ). putIn y p b ++ z) padded-take (padded-next k)
+      ∙ ap (λ (j : ℕ). putIn x p b ++ replicate (1000 - j) 0) (sym (length-in p b h))
+
+  pub padded-out : (p : ℕ) → p < length x → length x ≤ 1000 → placesTakeOut (padded x) (length x) p ≡ padded (takeOut x p)
+  unfolding placesTakeOut padded
+  padded-out p h k =
+      let m : suc (1000 - length x) ≡ 1000 - (length x - 1) = omega arith in
+      ap₂ (λ (y z : List ℕ). takeOut y p ++ 0 ∷ z) padded-take padded-rest
+      ∙ ap (λ (j : ℕ). takeOut x p ++ replicate j 0) m
+      ∙ ap (λ (j : ℕ). takeOut x p ++ replicate (1000 - j) 0) (sym (length-out p h))
 
 pub record Holds (s : Sheet) (c : Content) : Type 0 where
   pub letters : s .letters ≡ padded (c .text .letters)

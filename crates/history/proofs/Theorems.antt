@@ -12,8 +12,8 @@ use Rattle.terms.specs.declared.limits.Limits.{Limits}
 use Rattle.changes.specs.Changes.{doneOf, backOf}
 use Rattle.changes.specs.declared.Change.{Change}
 use Rattle.changes.specs.declared.Edit.{Edit}
-use Rattle.changes.specs.declared.Edit.the-variants.{Letter as EditLetter, Limits as EditLimits}
-use Rattle.sheet.specs.Bounds.{keptAt}
+use Rattle.changes.specs.declared.Edit.the-variants.{Letter as EditLetter, Limits as EditLimits, PutIn as EditPutIn, TakeOut as EditTakeOut}
+use Rattle.kept.specs.Lists.{keptAt}
 use Rattle.sheet.specs.Calls.{numberOf, refusing, answered, applied, takeBackCall, putAgainCall, opened, blankSheet}
 use Rattle.sheet.specs.declared.Reply.{Reply}
 use Rattle.sheet.specs.declared.Said.{Said}
@@ -21,7 +21,7 @@ use Rattle.sheet.specs.declared.Said.the-variants.{Opened}
 use Rattle.sheet.specs.declared.Sheet.{Sheet}
 use Rattle.sheet.proofs.Within.{bounds}
 use Rattle.sheet.proofs.Replying.{answer-no, applied-accepted, changed-accepted}
-use Rattle.history.specs.History.{Content, History, Request, letter, limits, takeBack, putAgain, made, start, accept, decide, reckon}
+use Rattle.history.specs.History.{Content, History, Request, letter, letterIn, letterOut, limits, takeBack, putAgain, made, start, accept, decide, reckon}
 use Rattle.history.specs.Runs.{contentOf, standingOf, takenOf, perform, Exchange, requested, asked, Run, after, Faithful}
 use Rattle.history.specs.Demand3.{Came, Demand3, AlphabetStays, RefusedStays, BackAndAgain, ChangeAndBack}
 use Rattle.history.specs.Openings.{BlankToo, OpensAnew}
@@ -61,9 +61,11 @@ demand-3 x l xs s c =
     let E = came-ends x l xs s c in
     let S = E .invariant in
     let w : s .standing + s .taken ≤ 64 = bounds s (S .bounds) .few in
+    let m : s .n ≤ 1000 = bounds s (S .bounds) .letters in
+    let n : s .n ≡ size (made (record { text = x; limits = l }) (standingOf s) .text) = S .holds .n in
     let k : length (standingOf s) ≡ s .standing = standing-length (s .kept) (s .standing) in (
       E .faithful,
-      rw (E .history) (record { content = content-is (S .holds); standing = refl; taken = refl; few = omega arith; bounds = S .bounds }),
+      rw (E .history) (record { content = content-is (S .holds); standing = refl; taken = refl; short = omega arith; few = omega arith; bounds = S .bounds }),
     )
 
 -- no change touches map or alphabet
@@ -83,6 +85,8 @@ stays fs s r z n = ap (λ (a : Reply). a .sheet) (answer-no fs s r (firstFault f
 
 pub refused-stays : RefusedStays
 refused-stays s (letter p b) = stays _ s _ (changed-accepted s (EditLetter p b))
+refused-stays s (letterIn p b) = stays _ s _ (changed-accepted s (EditPutIn p b))
+refused-stays s (letterOut p) = stays _ s _ (changed-accepted s (EditTakeOut p))
 refused-stays s (limits l) = stays _ s _ (changed-accepted s (EditLimits l))
 refused-stays s takeBack = stays _ s _ (applied-accepted s _ _ _)
 refused-stays s putAgain = stays _ s _ (applied-accepted s _ _ _)
@@ -128,22 +132,24 @@ pub back-and-again : BackAndAgain
 back-and-again x l xs s c =
     restored (record { text = x; limits = l }) s (s .standing) (s .taken) (came-ends x l xs s c .invariant)
 
--- A change and take-back, for whatever faults the change has.
+-- A change and take-back, of whatever kind.
 module _ {o : Content} {s : Sheet} (S : Invariant o s) where
-  undone : (q : Request) (e : Edit) (fs : List (ℕ × Bool)) → reckon (historyOf o s) q ≡ decide fs (historyOf o s) e → numberOf (perform s q .said) ≡ 0
+  undone : (q : Request) (e : Edit) → reckon (historyOf o s) q ≡ decide (historyOf o s) e → numberOf (perform s q .said) ≡ 0
       → (contentOf (takeBackCall (perform s q .sheet) .sheet) ≡ contentOf s) × (standingOf (takeBackCall (perform s q .sheet) .sheet) ≡ standingOf s)
-  undone q e fs d z =
+  undone q e d z =
       let h : History = historyOf o s in
       let A = step S q in
       let B = step (A .0) takeBack in
-      let n : numberOf (decide fs h e .1) ≡ 0 = ap (λ (y : History × Said). numberOf (y .1)) (sym d ∙ A .1) ∙ z in
-      let a : historyOf o (perform s q .sheet) ≡ accept h e .0 = ap (λ (y : History × Said). y .0) (sym (A .1) ∙ d ∙ decide-accepts fs h e n) in
+      let n : numberOf (decide h e .1) ≡ 0 = ap (λ (y : History × Said). numberOf (y .1)) (sym d ∙ A .1) ∙ z in
+      let a : historyOf o (perform s q .sheet) ≡ accept h e .0 = ap (λ (y : History × Said). y .0) (sym (A .1) ∙ d ∙ decide-accepts h e n) in
       let b : standingOf (takeBackCall (perform s q .sheet) .sheet) ≡ standingOf s
       = ap (λ (y : History × Said). y .0 .standing) (sym (B .1)) ∙ ap (λ (y : History). reckon y takeBack .0 .standing) a in
       (content-is (B .0 .holds) ∙ ap (made o) b ∙ sym (content-is (S .holds)), b)
 
 pub change-and-back : ChangeAndBack
-change-and-back x l xs s c (letter p b) k = undone (came-ends x l xs s c .invariant) (letter p b) (EditLetter p b) _ refl
-change-and-back x l xs s c (limits m) k = undone (came-ends x l xs s c .invariant) (limits m) (EditLimits m) _ refl
+change-and-back x l xs s c (letter p b) k = undone (came-ends x l xs s c .invariant) (letter p b) (EditLetter p b) refl
+change-and-back x l xs s c (letterIn p b) k = undone (came-ends x l xs s c .invariant) (letterIn p b) (EditPutIn p b) refl
+change-and-back x l xs s c (letterOut p) k = undone (came-ends x l xs s c .invariant) (letterOut p) (EditTakeOut p) refl
+change-and-back x l xs s c (limits m) k = undone (came-ends x l xs s c .invariant) (limits m) (EditLimits m) refl
 change-and-back x l xs s c takeBack k = absurd k
 change-and-back x l xs s c putAgain k = absurd k

@@ -1,17 +1,17 @@
 -- Demand 3, Faithful: after any run of calls the letters and limits are the opening's with just the standing changes made in order; each question
--- answers as a sheet freshly opened with them would; every accepted change, take-back and put-again says back place, old, new and the number standing.
+-- answers as a sheet freshly opened with them would; every accepted change, take-back and put-again says back what it did and the number standing.
 use mathlib.Core.Path.{_≡_}
 use mathlib.Core.Bool.{true}
 use mathlib.Core.List.{List}
 use Prim.Native.Nat.{_≤_}
 use lib.ListN.{length}
-use Rattle.terms.specs.Sizes.{mostChanges}
-use Rattle.terms.specs.Texts.{Text}
+use Rattle.terms.specs.Sizes.{mostLetters, mostChanges}
+use Rattle.terms.specs.Texts.{Text, size}
 use Rattle.terms.specs.declared.limits.Limits.{Limits}
 use Rattle.sheet.specs.Bounds.{inBounds}
 use Rattle.sheet.specs.Calls.{numberOf, takeBackCall, putAgainCall, openCall}
 use Rattle.sheet.specs.declared.Sheet.{Sheet}
-use Rattle.history.specs.History.{History, Request, letter, limits, start, current}
+use Rattle.history.specs.History.{History, Request, letter, letterIn, letterOut, limits, start, current}
 use Rattle.history.specs.Runs.{contentOf, standingOf, takenOf, perform, Exchange, Run, after, Faithful}
 
 -- A sheet that a run of calls left, beside the history reckoned from those calls.
@@ -21,6 +21,8 @@ pub record Stands (h : History) (s : Sheet) : Type 0 where
   -- the sheet's two lists are the history's
   pub standing : standingOf s ≡ h .standing
   pub taken : takenOf s ≡ h .taken
+  -- there are at most 1,000 letters; every beginning of a run is a run, so at no moment are there more (02, L5)
+  pub short : size (current h .text) ≤ mostLetters
   -- at most 64 changes stand, and no call will refuse the sheet with 24
   pub few : length (h .standing) ≤ mostChanges
   pub bounds : inBounds s ≡ true
@@ -57,6 +59,8 @@ BackAndAgain =
 -- A request that asks for a change.
 abbrev pub Changes : Request → Type 0
 Changes (letter p b) = Unit {0}
+Changes (letterIn p b) = Unit {0}
+Changes (letterOut p) = Unit {0}
 Changes (limits l) = Unit {0}
 Changes Request.takeBack = ⊥
 Changes Request.putAgain = ⊥

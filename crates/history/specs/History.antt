@@ -1,19 +1,19 @@
 -- The history of a sheet (01, "The sheet"): reckoned from the calls made since the opening, by the rules there, and not read off the sheet.
-use mathlib.Core.Bool.{Bool, not, cond}
+use mathlib.Core.Bool.{Bool, cond}
 use mathlib.Core.List.{List, [], _∷_, _++_}
 use Prim.Native.Nat.{ℕ}
 use lib.Dec.{eqb, leb}
 use lib.ListN.{getD, set, length}
 use Rattle.terms.specs.Sizes.{mostChanges}
 use Rattle.terms.specs.Refusals.{firstFault}
-use Rattle.terms.specs.Alphabets.{isIn}
-use Rattle.terms.specs.Limits.{limitsFaults}
 use Rattle.terms.specs.Texts.{Text, text, size}
 use Rattle.terms.specs.declared.limits.Limits.{Limits}
+use Rattle.changes.specs.Changes.{editFaults}
 use Rattle.changes.specs.declared.Edit.{Edit}
-use Rattle.changes.specs.declared.Edit.the-variants.{Letter as EditLetter, Limits as EditLimits}
+use Rattle.changes.specs.declared.Edit.the-variants.{Letter as EditLetter, Limits as EditLimits, PutIn as EditPutIn, TakeOut as EditTakeOut}
+use Rattle.shifts.specs.Shifts.{putIn, takeOut}
 use Rattle.sheet.specs.declared.Said.{Said}
-use Rattle.sheet.specs.declared.Said.the-variants.{Letter as SaidLetter, Limits as SaidLimits, No}
+use Rattle.sheet.specs.declared.Said.the-variants.{Letter as SaidLetter, Limits as SaidLimits, PutIn as SaidPutIn, TakeOut as SaidTakeOut, No}
 
 -- What a question is asked of: letters with their map and alphabet, and limits.
 pub record Content : Type 0 where
@@ -24,21 +24,28 @@ pub record Content : Type 0 where
 abbrev pub make : Edit → Content → Content
 make (EditLetter p b) c = record { text = text (set (c .text .letters) p b) (c .text .map) (c .text .alphabet); limits = c .limits }
 make (EditLimits l) c = record { text = c .text; limits = l }
+make (EditPutIn p b) c = record { text = text (putIn (c .text .letters) p b) (c .text .map) (c .text .alphabet); limits = c .limits }
+make (EditTakeOut p) c = record { text = text (takeOut (c .text .letters) p) (c .text .map) (c .text .alphabet); limits = c .limits }
 
 -- The edit that takes e back, where e was made of c: it restores what was there.
 abbrev pub back : Content → Edit → Edit
 back c (EditLetter p b) = EditLetter p (getD (c .text .letters) p 0)
 back c (EditLimits l) = EditLimits (c .limits)
+back c (EditPutIn p b) = EditTakeOut p
+back c (EditTakeOut p) = EditPutIn p (getD (c .text .letters) p 0)
 
 -- The opening with changes made in their order; the list has the newest first.
 abbrev pub made : Content → List Edit → Content
 made o [] = o
 made o (e ∷ es) = make e (made o es)
 
--- What is said back of an edit that led from `was` to `is`: place, letter replaced, letter now there; or the limits now in force; and k standing.
+-- What is said back of an edit that led from `was` to `is`: place, letter replaced, letter now there; or the limits now in force; or place, letter put
+-- in or taken out, number of letters; and k standing.
 abbrev pub sayBack : Edit → Content → Content → ℕ → Said
 sayBack (EditLetter p b) was is k = SaidLetter p (getD (was .text .letters) p 0) (getD (is .text .letters) p 0) k
 sayBack (EditLimits l) was is k = SaidLimits (is .limits) k
+sayBack (EditPutIn p b) was is k = SaidPutIn p (getD (is .text .letters) p 0) (size (is .text)) k
+sayBack (EditTakeOut p) was is k = SaidTakeOut p (getD (was .text .letters) p 0) (size (is .text)) k
 
 -- The opening, the standing changes (the newest first) and those taken back (the next to put again first).
 pub record History : Type 0 where
@@ -56,7 +63,8 @@ current h = made (h .opening) (h .standing)
 
 -- A call that asks for a change, or moves one.
 pub data Request : Type 0 where
-  letter : ℕ → ℕ → Request
+  letter letterIn : ℕ → ℕ → Request
+  letterOut : ℕ → Request
   limits : Limits → Request
   takeBack putAgain : Request
 
@@ -72,13 +80,16 @@ refuse h k = (h, No k)
 abbrev pub accept : History → Edit → History × Said
 accept h e = moved h e (record { opening = h .opening; standing = e ∷ h .standing; taken = [] })
 
--- A change, with its faults in testing order.
-abbrev pub decide : List (ℕ × Bool) → History → Edit → History × Said
-decide faults h e = cond (eqb (firstFault faults) 0) (accept h e) (refuse h (firstFault faults))
-
 -- 64 changes stand.
 abbrev pub full : History → Bool
 full h = leb mostChanges (length (h .standing))
+
+-- A call for a change: it refuses what it refuses of the edit as things now stand, then 7, in testing order; else it is accepted.
+abbrev pub faultsOf : History → Edit → List (ℕ × Bool)
+faultsOf h e = editFaults (size (current h .text)) (current h .text .alphabet) e ++ (7, full h) ∷ []
+
+abbrev pub decide : History → Edit → History × Said
+decide h e = cond (eqb (firstFault (faultsOf h e)) 0) (accept h e) (refuse h (firstFault (faultsOf h e)))
 
 -- Take-back moves the newest standing change over and restores what it replaced; 8 where there is none.
 abbrev pub backFrom : History → List Edit → History × Said
@@ -92,7 +103,9 @@ againFrom h (e ∷ es) = moved h e (record { opening = h .opening; standing = e 
 
 -- What a request makes of the history, and what is said back.
 abbrev pub reckon : History → Request → History × Said
-reckon h (letter p b) = decide ((6, leb (size (current h .text)) p) ∷ (19, not (isIn (current h .text .alphabet) b)) ∷ (7, full h) ∷ []) h (EditLetter p b)
-reckon h (limits l) = decide (limitsFaults l ++ (7, full h) ∷ []) h (EditLimits l)
+reckon h (letter p b) = decide h (EditLetter p b)
+reckon h (letterIn p b) = decide h (EditPutIn p b)
+reckon h (letterOut p) = decide h (EditTakeOut p)
+reckon h (limits l) = decide h (EditLimits l)
 reckon h takeBack = backFrom h (h .standing)
 reckon h putAgain = againFrom h (h .taken)

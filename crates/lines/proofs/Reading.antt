@@ -9,13 +9,16 @@ use borrow.Author.Tests.{leb-true, eqb-true, lt-ltb, eq-eqb, le-leb}
 use lib.Dec.{leb, eqb}
 use lib.ListN.{length, drop, drop-of-length-le, length-drop}
 use Rattle.terms.specs.declared.limits.Limits.{Limits}
+use Rattle.changes.specs.declared.Edit.the-variants.{Letter, Limits as NewLimits, PutIn, TakeOut}
 use Rattle.printing.specs.Printing.{fields}
 use Rattle.lines.specs.declared.Line.{Line}
-use Rattle.lines.specs.declared.Line.the-variants.{Open, Letter, Limits as NewLimits, TakeBack, PutAgain, Question, Unknown}
+use Rattle.lines.specs.declared.Line.the-variants.{Open, Change, TakeBack, PutAgain, Question, Unknown}
+use Rattle.lines.specs.declared.Placed.{Placed}
+use Rattle.lines.specs.declared.Placed.the-variants.{At, Nowhere}
 use Rattle.lines.specs.declared.Four.{Four}
 use Rattle.lines.specs.declared.Four.the-variants.{Are, Missing}
-use Rattle.lines.specs.Lines.{Asked, opening, letter, limits, takeBack, putAgain, question, limitsNumbers, mapLetter, mostBytes, Asks, Reads, OneReading}
-use Rattle.lines.specs.Work.{stands, withFour, fourAfter, ending, letterLine, limitsLine, stringAfter, openLine, lineOf}
+use Rattle.lines.specs.Lines.{Asked, opening, change, takeBack, putAgain, question, limitsNumbers, mapLetter, mostBytes, Asks, Reads, OneReading}
+use Rattle.lines.specs.Work.{stands, withFour, fourAfter, ending, placedOf, withPlaced, letterLine, inLine, outLine, limitsLine, stringAfter, openLine, lineOf}
 use Rattle.lines.proofs.Standing.{by-test, stands-in, stands-drop, stands-yes, stands-no}
 use Rattle.lines.proofs.Numerals.{on}
 use Rattle.lines.proofs.Numbers.{no-digit, nothing-digit, Stand, none-stand, one-stands, Fours, going, four-sound, after-complete, four-complete}
@@ -24,8 +27,7 @@ module _ (xs : List ℕ) (short : length xs ≤ mostBytes) where
   -- a line that was understood asks what was read; of one that was not nothing is said yet
   abbrev Sounds : Line → Type 0
   Sounds (Open l c from) = Reads xs (Open l c from)
-  Sounds (Letter p b) = Reads xs (Letter p b)
-  Sounds (NewLimits l) = Reads xs (NewLimits l)
+  Sounds (Change e) = Reads xs (Change e)
   Sounds TakeBack = Reads xs TakeBack
   Sounds PutAgain = Reads xs PutAgain
   Sounds Question = Reads xs Question
@@ -42,24 +44,51 @@ module _ (xs : List ℕ) (short : length xs ≤ mostBytes) where
   lone b line then h =
       by-test Sounds (eqb 1 (length xs)) _ _ (λ q. then (whole b [] 1 h (none-stand xs 1 (omega (arith, stands-in xs 0 b h))) (eqb-true 1 (length xs) q))) (λ _. tt)
 
+  -- a place and a byte behind the line's letter
+  abbrev Places : Placed → Type 0
+  Places Nowhere = Unit {0}
+  Places (At p b) = (p < 10000) × (b ≤ 255) × ((lead : ℕ) → stands xs 0 lead ≡ true → xs ≡ lead ∷ fields (p ∷ b ∷ []))
+
+  placed-sound : Places (placedOf xs)
+  unfolding placedOf
+  placed-sound =
+      going xs Places 1 _ _ tt (λ p a h₁ l₁ e₁.
+      going xs Places a _ _ tt (λ b e h₂ l₂ e₂.
+      by-test Places (eqb e (length xs)) _ _ (λ q.
+      by-test Places (leb b 255) _ _ (λ k. (
+        h₁,
+        leb-true b 255 k,
+        λ lead h. whole lead (p ∷ b ∷ []) e h (one-stands xs 1 p a e _ h₁ e₁ (one-stands xs a b e e _ h₂ e₂ (none-stand xs e l₂))) (eqb-true e (length xs) q),
+      )) (λ _. tt)) (λ _. tt)))
+
   letter-sound : stands xs 0 76 ≡ true → Sounds (letterLine xs)
   unfolding letterLine
-  letter-sound h =
-      going xs Sounds 1 _ _ tt (λ p a h₁ l₁ e₁.
-      going xs Sounds a _ _ tt (λ b e h₂ l₂ e₂.
+  letter-sound h = go (placedOf xs) placed-sound
+    where
+      go : (r : Placed) → Places r → Sounds (withPlaced r (λ p b. Change (Letter p b)))
+      go Nowhere q = tt
+      go (At p b) q = record { short = short; proper = (q .0, q .1); form = q .2 76 h }
+
+  in-sound : stands xs 0 73 ≡ true → Sounds (inLine xs)
+  unfolding inLine
+  in-sound h = go (placedOf xs) placed-sound
+    where
+      go : (r : Placed) → Places r → Sounds (withPlaced r (λ p b. Change (PutIn p b)))
+      go Nowhere q = tt
+      go (At p b) q = record { short = short; proper = (q .0, q .1); form = q .2 73 h }
+
+  out-sound : stands xs 0 88 ≡ true → Sounds (outLine xs)
+  unfolding outLine
+  out-sound h =
+      going xs Sounds 1 _ _ tt (λ p e h₁ l₁ e₁.
       by-test Sounds (eqb e (length xs)) _ _ (λ q.
-      by-test Sounds (leb b 255) _ _ (λ k.
-      record {
-        short = short;
-        proper = (h₁, leb-true b 255 k);
-        form = whole 76 (p ∷ b ∷ []) e h (one-stands xs 1 p a e _ h₁ e₁ (one-stands xs a b e e _ h₂ e₂ (none-stand xs e l₂))) (eqb-true e (length xs) q);
-      }) (λ _. tt)) (λ _. tt)))
+      record { short = short; proper = h₁; form = whole 88 (p ∷ []) e h (one-stands xs 1 p e e _ h₁ e₁ (none-stand xs e l₁)) (eqb-true e (length xs) q) }) (λ _. tt))
 
   limits-sound : stands xs 0 77 ≡ true → Sounds (limitsLine xs)
   unfolding limitsLine
   limits-sound h = go (fourAfter xs 1) (four-sound xs 1)
     where
-      go : (r : Four) → Fours xs 1 r → Sounds (withFour r Unknown (λ l e. ending xs e (NewLimits l)))
+      go : (r : Four) → Fours xs 1 r → Sounds (withFour r Unknown (λ l e. ending xs e (Change (NewLimits l))))
       go Missing p = tt
       go (Are l e) p =
           by-test Sounds (eqb e (length xs)) _ _ (λ q. record { short = short; proper = p .small; form = whole 77 _ e h p (eqb-true e (length xs) q) }) (λ _. tt)
@@ -97,16 +126,17 @@ module _ (xs : List ℕ) (short : length xs ≤ mostBytes) where
   line-sound =
       by-test Sounds (stands xs 0 79) _ _ open-sound (λ _.
       by-test Sounds (stands xs 0 76) _ _ letter-sound (λ _.
+      by-test Sounds (stands xs 0 73) _ _ in-sound (λ _.
+      by-test Sounds (stands xs 0 88) _ _ out-sound (λ _.
       by-test Sounds (stands xs 0 77) _ _ limits-sound (λ _.
       by-test Sounds (stands xs 0 66) _ _ (lone 66 TakeBack (λ e. record { short = short; proper = tt; form = e })) (λ _.
       by-test Sounds (stands xs 0 65) _ _ (lone 65 PutAgain (λ e. record { short = short; proper = tt; form = e })) (λ _.
-      by-test Sounds (stands xs 0 81) _ _ (lone 81 Question (λ e. record { short = short; proper = tt; form = e })) (λ _. tt))))))
+      by-test Sounds (stands xs 0 81) _ _ (lone 81 Question (λ e. record { short = short; proper = tt; form = e })) (λ _. tt))))))))
 
 -- a line that was understood
 abbrev Understood : Line → Type 0
 Understood (Open l c from) = Unit {0}
-Understood (Letter p b) = Unit {0}
-Understood (NewLimits l) = Unit {0}
+Understood (Change e) = Unit {0}
 Understood TakeBack = Unit {0}
 Understood PutAgain = Unit {0}
 Understood Question = Unit {0}
@@ -121,15 +151,28 @@ module _ (xs : List ℕ) where
   same-place : (i j : ℕ) → i ≤ length xs → j ≤ length xs → drop i xs ≡ drop j xs → i ≡ j
   same-place i j h k e = let l : length xs - i ≡ length xs - j = sym (length-drop i xs) ∙ ap length e ∙ length-drop j xs in omega arith
 
-  letter-read : (p b : ℕ) → Asks xs (letter p b) → letterLine xs ≡ Letter p b
-  unfolding letterLine
-  letter-read p b q =
-      let e : drop 1 xs ≡ fields (p ∷ b ∷ []) ++ [] = ap (drop 1) (q .form) ∙ sym (append-nil (fields (p ∷ b ∷ []))) in
-      let f₁ = after-complete xs 1 p (b ∷ []) [] (q .proper .0) e (no-digit 32 _ (omega arith)) in
-      let f₂ = after-complete xs (f₁ .place) b [] [] (omega (arith, q .proper .1)) (f₁ .left) nothing-digit in
-      simp (f₁ .read, f₂ .read, eq-eqb _ _ (at-end (f₂ .place) (f₂ .inside) (f₂ .left)), le-leb _ _ (q .proper .1))
+  placed-read : (p b : ℕ) → p < 10000 → b ≤ 255 → drop 1 xs ≡ fields (p ∷ b ∷ []) → placedOf xs ≡ At p b
+  unfolding placedOf
+  placed-read p b h k q =
+      let f₁ = after-complete xs 1 p (b ∷ []) [] h (q ∙ sym (append-nil (fields (p ∷ b ∷ [])))) (no-digit 32 _ (omega arith)) in
+      let f₂ = after-complete xs (f₁ .place) b [] [] (omega arith) (f₁ .left) nothing-digit in
+      simp (f₁ .read, f₂ .read, eq-eqb _ _ (at-end (f₂ .place) (f₂ .inside) (f₂ .left)), le-leb _ _ k)
 
-  limits-read : (l : Limits) → Asks xs (limits l) → limitsLine xs ≡ NewLimits l
+  letter-read : (p b : ℕ) → Asks xs (change (Letter p b)) → letterLine xs ≡ Change (Letter p b)
+  unfolding letterLine
+  letter-read p b q = rw (placed-read p b (q .proper .0) (q .proper .1) (ap (drop 1) (q .form)))
+
+  in-read : (p b : ℕ) → Asks xs (change (PutIn p b)) → inLine xs ≡ Change (PutIn p b)
+  unfolding inLine
+  in-read p b q = rw (placed-read p b (q .proper .0) (q .proper .1) (ap (drop 1) (q .form)))
+
+  out-read : (p : ℕ) → Asks xs (change (TakeOut p)) → outLine xs ≡ Change (TakeOut p)
+  unfolding outLine
+  out-read p q =
+      let f = after-complete xs 1 p [] [] (q .proper) (ap (drop 1) (q .form) ∙ sym (append-nil (fields (p ∷ [])))) nothing-digit in
+      simp (f .read, eq-eqb _ _ (at-end (f .place) (f .inside) (f .left)))
+
+  limits-read : (l : Limits) → Asks xs (change (NewLimits l)) → limitsLine xs ≡ Change (NewLimits l)
   unfolding limitsLine
   limits-read l q =
       let f = four-complete xs 1 l [] (q .proper) (ap (drop 1) (q .form) ∙ sym (append-nil (fields (limitsNumbers l)))) nothing-digit in
@@ -174,8 +217,11 @@ module _ (xs : List ℕ) where
   known : (r : Line) → Reads xs r → Understood r → lineOf xs ≡ r
   unfolding lineOf
   known (Open l c from) q n = rw (lead 79 _ (q .0 .form) 79) (open-read l c from (q .0) (q .1))
-  known (Letter p b) q n = rw (lead 76 _ (q .form) 79, lead 76 _ (q .form) 76) (letter-read p b q)
-  known (NewLimits l) q n = rw (lead 77 _ (q .form) 79, lead 77 _ (q .form) 76, lead 77 _ (q .form) 77) (limits-read l q)
+  known (Change (Letter p b)) q n = rw (lead 76 _ (q .form) 79, lead 76 _ (q .form) 76) (letter-read p b q)
+  known (Change (PutIn p b)) q n = rw (lead 73 _ (q .form) 79, lead 73 _ (q .form) 76, lead 73 _ (q .form) 73) (in-read p b q)
+  known (Change (TakeOut p)) q n = rw (lead 88 _ (q .form) 79, lead 88 _ (q .form) 76, lead 88 _ (q .form) 73, lead 88 _ (q .form) 88) (out-read p q)
+  known (Change (NewLimits l)) q n =
+      rw (lead 77 _ (q .form) 79, lead 77 _ (q .form) 76, lead 77 _ (q .form) 73, lead 77 _ (q .form) 88, lead 77 _ (q .form) 77) (limits-read l q)
   known TakeBack q n = simp (lead 66 _ (q .form), lone-ends 66 TakeBack (q .form))
   known PutAgain q n = simp (lead 65 _ (q .form), lone-ends 65 PutAgain (q .form))
   known Question q n = simp (lead 81 _ (q .form), lone-ends 81 Question (q .form))
@@ -190,8 +236,7 @@ module _ (xs : List ℕ) where
       let e₃ : drop (i + 3) xs ≡ string = on xs (i + 2) (i + 3) _ _ e₂ (omega arith) in
       let h : i + 2 < length xs = stands-in xs (i + 2) 32 (stands-yes xs (i + 2) 32 32 _ e₂ refl) in
       subst Understood (sym (known (Open l c (i + 3)) (subst (λ (z : List ℕ). Asks xs (opening l c z)) (sym e₃) q, omega arith) tt)) tt
-  understood (letter p b) q = subst Understood (sym (known (Letter p b) q tt)) tt
-  understood (limits l) q = subst Understood (sym (known (NewLimits l) q tt)) tt
+  understood (change e) q = subst Understood (sym (known (Change e) q tt)) tt
   understood takeBack q = subst Understood (sym (known TakeBack q tt)) tt
   understood putAgain q = subst Understood (sym (known PutAgain q tt)) tt
   understood question q = subst Understood (sym (known Question q tt)) tt
@@ -202,8 +247,7 @@ module _ (xs : List ℕ) where
     where
       go : (r : Line) → Sounds xs short r → ((a : Asked) → Asks xs a → Understood r) → Reads xs r
       go (Open l c from) s u = s
-      go (Letter p b) s u = s
-      go (NewLimits l) s u = s
+      go (Change e) s u = s
       go TakeBack s u = s
       go PutAgain s u = s
       go Question s u = s
@@ -216,8 +260,7 @@ module _ (xs : List ℕ) where
   -- a line that is understood asks something
   clash : (r : Line) → Understood r → Reads xs r → Reads xs Unknown → ⊥
   clash (Open l c from) u q n = n _ (q .0)
-  clash (Letter p b) u q n = n _ q
-  clash (NewLimits l) u q n = n _ q
+  clash (Change e) u q n = n _ q
   clash TakeBack u q n = n _ q
   clash PutAgain u q n = n _ q
   clash Question u q n = n _ q
@@ -226,8 +269,7 @@ module _ (xs : List ℕ) where
 -- a line is understood or not
 either : (r : Line) → Understood r ⊎ (r ≡ Unknown)
 either (Open l c from) = inl tt
-either (Letter p b) = inl tt
-either (NewLimits l) = inl tt
+either (Change e) = inl tt
 either TakeBack = inl tt
 either PutAgain = inl tt
 either Question = inl tt

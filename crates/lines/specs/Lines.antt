@@ -5,15 +5,16 @@ use mathlib.Core.List.{List, [], _∷_, _++_}
 use Prim.Native.Nat.{ℕ, _≤_, _<_}
 use lib.ListN.{length, drop}
 use Rattle.terms.specs.declared.limits.Limits.{Limits}
+use Rattle.changes.specs.declared.Edit.{Edit}
+use Rattle.changes.specs.declared.Edit.the-variants.{Letter, Limits as NewLimits, PutIn, TakeOut}
 use Rattle.printing.specs.Printing.{fields}
 use Rattle.lines.specs.declared.Line.{Line}
-use Rattle.lines.specs.declared.Line.the-variants.{Open, Letter, Limits as NewLimits, TakeBack, PutAgain, Question, Unknown}
+use Rattle.lines.specs.declared.Line.the-variants.{Open, Change, TakeBack, PutAgain, Question, Unknown}
 
 -- What a line can ask: an opening (limits, whether the map is complement, string), a change, a take-back, a put-again or a question.
 pub data Asked : Type 0 where
   opening : Limits → Bool → List ℕ → Asked
-  letter : ℕ → ℕ → Asked
-  limits : Limits → Asked
+  change : Edit → Asked
   takeBack putAgain question : Asked
 
 -- Kind, m, g and d as they stand in a line.
@@ -24,11 +25,13 @@ limitsNumbers l = l .kind ∷ l .m ∷ l .g ∷ l .d ∷ []
 abbrev pub mapLetter : Bool → ℕ
 mapLetter complement = cond complement 67 73
 
--- The bytes of a line: `O kind m g d map string`, `L place byte`, `M kind m g d`, `B`, `A`, `Q`. One space between fields.
+-- The bytes of a line: `O kind m g d map string`, `L place byte`, `I place byte`, `X place`, `M kind m g d`, `B`, `A`, `Q`. One space between fields.
 abbrev pub lineText : Asked → List ℕ
 lineText (opening l c string) = 79 ∷ (fields (limitsNumbers l) ++ (32 ∷ mapLetter c ∷ 32 ∷ string))
-lineText (letter place byte) = 76 ∷ fields (place ∷ byte ∷ [])
-lineText (limits l) = 77 ∷ fields (limitsNumbers l)
+lineText (change (Letter place byte)) = 76 ∷ fields (place ∷ byte ∷ [])
+lineText (change (PutIn place byte)) = 73 ∷ fields (place ∷ byte ∷ [])
+lineText (change (TakeOut place)) = 88 ∷ fields (place ∷ [])
+lineText (change (NewLimits l)) = 77 ∷ fields (limitsNumbers l)
 lineText takeBack = 66 ∷ []
 lineText putAgain = 65 ∷ []
 lineText question = 81 ∷ []
@@ -41,8 +44,10 @@ Short (n ∷ ns) = (n < 10000) × Short ns
 -- The numbers that a line may hold: 1 to 4 digits, a byte at most 255.
 abbrev pub Proper : Asked → Type 0
 Proper (opening l c string) = Short (limitsNumbers l)
-Proper (letter place byte) = (place < 10000) × (byte ≤ 255)
-Proper (limits l) = Short (limitsNumbers l)
+Proper (change (Letter place byte)) = (place < 10000) × (byte ≤ 255)
+Proper (change (PutIn place byte)) = (place < 10000) × (byte ≤ 255)
+Proper (change (TakeOut place)) = place < 10000
+Proper (change (NewLimits l)) = Short (limitsNumbers l)
 Proper takeBack = Unit {0}
 Proper putAgain = Unit {0}
 Proper question = Unit {0}
@@ -60,8 +65,7 @@ pub record Asks (xs : List ℕ) (a : Asked) : Type 0 where
 -- What a parsed line asks; an opening's string is the rest of the line from a place on. Unknown asks nothing.
 abbrev pub Reads : List ℕ → Line → Type 0
 Reads xs (Open l c from) = Asks xs (opening l c (drop from xs)) × (from ≤ length xs)
-Reads xs (Letter p b) = Asks xs (letter p b)
-Reads xs (NewLimits l) = Asks xs (limits l)
+Reads xs (Change e) = Asks xs (change e)
 Reads xs TakeBack = Asks xs takeBack
 Reads xs PutAgain = Asks xs putAgain
 Reads xs Question = Asks xs question

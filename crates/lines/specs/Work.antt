@@ -5,12 +5,15 @@ use Prim.Native.Nat.{ℕ, _+_, _-_, _*_}
 use lib.Dec.{leb, ltb, eqb}
 use lib.ListN.{length, getD}
 use Rattle.terms.specs.declared.limits.Limits.{Limits}
+use Rattle.changes.specs.declared.Edit.the-variants.{Letter, Limits as NewLimits, PutIn, TakeOut}
 use Rattle.lines.specs.declared.Number.{Number}
 use Rattle.lines.specs.declared.Number.the-variants.{Is, Not}
 use Rattle.lines.specs.declared.Four.{Four}
 use Rattle.lines.specs.declared.Four.the-variants.{Are, Missing}
+use Rattle.lines.specs.declared.Placed.{Placed}
+use Rattle.lines.specs.declared.Placed.the-variants.{At, Nowhere}
 use Rattle.lines.specs.declared.Line.{Line}
-use Rattle.lines.specs.declared.Line.the-variants.{Open, Letter, Limits as NewLimits, TakeBack, PutAgain, Question, Unknown}
+use Rattle.lines.specs.declared.Line.the-variants.{Open, Change, TakeBack, PutAgain, Question, Unknown}
 
 -- The digit at a place, 10 where there is none.
 unfoldable pub digitAt : List ℕ → ℕ → ℕ
@@ -52,11 +55,27 @@ fourAfter xs i =
 abbrev pub ending : List ℕ → ℕ → Line → Line
 ending xs i line = cond (eqb i (length xs)) line Unknown
 
+-- A place and a byte up to the line's end.
+unfoldable pub placedOf : List ℕ → Placed
+placedOf xs =
+    withNumber (numberAfter xs 1) Nowhere (λ p a.
+    withNumber (numberAfter xs a) Nowhere (λ b e. cond (eqb e (length xs)) (cond (leb b 255) (At p b) Nowhere) Nowhere))
+
+abbrev pub withPlaced : Placed → (ℕ → ℕ → Line) → Line
+withPlaced Nowhere then = Unknown
+withPlaced (At p b) then = then p b
+
 unfoldable pub letterLine : List ℕ → Line
-letterLine xs = withNumber (numberAfter xs 1) Unknown (λ p a. withNumber (numberAfter xs a) Unknown (λ b e. ending xs e (cond (leb b 255) (Letter p b) Unknown)))
+letterLine xs = withPlaced (placedOf xs) (λ p b. Change (Letter p b))
+
+unfoldable pub inLine : List ℕ → Line
+inLine xs = withPlaced (placedOf xs) (λ p b. Change (PutIn p b))
+
+unfoldable pub outLine : List ℕ → Line
+outLine xs = withNumber (numberAfter xs 1) Unknown (λ p e. ending xs e (Change (TakeOut p)))
 
 unfoldable pub limitsLine : List ℕ → Line
-limitsLine xs = withFour (fourAfter xs 1) Unknown (λ l e. ending xs e (NewLimits l))
+limitsLine xs = withFour (fourAfter xs 1) Unknown (λ l e. ending xs e (Change (NewLimits l)))
 
 -- A space, the map's letter and a space; then the string.
 abbrev pub stringAfter : List ℕ → Limits → ℕ → Line
@@ -70,5 +89,5 @@ openLine xs = withFour (fourAfter xs 1) Unknown (λ l i. stringAfter xs l i)
 -- A whole line.
 unfoldable pub lineOf : List ℕ → Line
 lineOf xs =
-    cond (stands xs 0 79) (openLine xs) (cond (stands xs 0 76) (letterLine xs) (cond (stands xs 0 77) (limitsLine xs)
-    (cond (stands xs 0 66) (ending xs 1 TakeBack) (cond (stands xs 0 65) (ending xs 1 PutAgain) (cond (stands xs 0 81) (ending xs 1 Question) Unknown)))))
+    cond (stands xs 0 79) (openLine xs) (cond (stands xs 0 76) (letterLine xs) (cond (stands xs 0 73) (inLine xs) (cond (stands xs 0 88) (outLine xs) (cond (stands xs 0 77) (limitsLine xs)
+    (cond (stands xs 0 66) (ending xs 1 TakeBack) (cond (stands xs 0 65) (ending xs 1 PutAgain) (cond (stands xs 0 81) (ending xs 1 Question) Unknown)))))))

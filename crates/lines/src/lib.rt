@@ -4,10 +4,11 @@ pub mod fields;
 use crate::fields::four_after;
 use crate::fields::number_after;
 use crate::fields::stands;
+use changes::Edit;
 use terms::limits::Limits;
 ghost use mathlib.Core.Path.{_≡_};
 ghost use Rattle.lines.specs.Lines.{Reads};
-ghost use Rattle.lines.specs.Work.{ending, letterLine, limitsLine, openLine, lineOf};
+ghost use Rattle.lines.specs.Work.{ending, placedOf, letterLine, inLine, outLine, limitsLine, openLine, lineOf};
 
 // The most bytes of a line before its line end.
 pub const BYTES: usize = 1040;
@@ -19,12 +20,8 @@ pub enum Line {
         complement: bool,
         from: usize,
     },
-    Letter {
-        place: usize,
-        byte: u8,
-    },
-    Limits {
-        limits: Limits,
+    Change {
+        edit: Edit,
     },
     TakeBack,
     PutAgain,
@@ -44,30 +41,76 @@ pub enum Four {
     Missing,
 }
 
-// `L place byte`
-fn letter_line(s: &[u8]) -> Line
-    ensures { λ r. ⌜ r ≡ letterLine (now (s .entry)) ⌝ }
+// A place and a byte, up to the end of a line.
+pub enum Placed {
+    At { place: usize, byte: u8 },
+    Nowhere,
+}
+
+// ` place byte`, behind a line's letter
+fn place_byte(s: &[u8]) -> Placed
+    ensures { λ r. ⌜ r ≡ placedOf (now (s .entry)) ⌝ }
 {
     let Number::Is { value: place, next } = number_after(s, 1) else {
-        return Line::Unknown;
+        return Placed::Nowhere;
     };
     let Number::Is {
         value: byte,
         next: end,
     } = number_after(s, next)
     else {
+        return Placed::Nowhere;
+    };
+    if end != s.len() {
+        return Placed::Nowhere;
+    }
+    if 255 < byte {
+        return Placed::Nowhere;
+    }
+    Placed::At {
+        place,
+        byte: byte as u8,
+    }
+}
+
+// `L place byte`
+fn letter_line(s: &[u8]) -> Line
+    ensures { λ r. ⌜ r ≡ letterLine (now (s .entry)) ⌝ }
+{
+    let Placed::At { place, byte } = place_byte(s) else {
+        return Line::Unknown;
+    };
+    let edit = Edit::Letter { place, byte };
+    Line::Change { edit }
+}
+
+// `I place byte`
+fn in_line(s: &[u8]) -> Line
+    ensures { λ r. ⌜ r ≡ inLine (now (s .entry)) ⌝ }
+{
+    let Placed::At { place, byte } = place_byte(s) else {
+        return Line::Unknown;
+    };
+    let edit = Edit::PutIn { place, byte };
+    Line::Change { edit }
+}
+
+// `X place`
+fn out_line(s: &[u8]) -> Line
+    ensures { λ r. ⌜ r ≡ outLine (now (s .entry)) ⌝ }
+{
+    let Number::Is {
+        value: place,
+        next: end,
+    } = number_after(s, 1)
+    else {
         return Line::Unknown;
     };
     if end != s.len() {
         return Line::Unknown;
     }
-    if 255 < byte {
-        return Line::Unknown;
-    }
-    Line::Letter {
-        place,
-        byte: byte as u8,
-    }
+    let edit = Edit::TakeOut { place };
+    Line::Change { edit }
 }
 
 // `M kind m g d`
@@ -80,7 +123,8 @@ fn limits_line(s: &[u8]) -> Line
     if end != s.len() {
         return Line::Unknown;
     }
-    Line::Limits { limits }
+    let edit = Edit::Limits { limits };
+    Line::Change { edit }
 }
 
 // `O kind m g d map string`
@@ -133,6 +177,12 @@ fn line_of(s: &[u8]) -> Line
     }
     if stands(s, 0, b'L') {
         return letter_line(s);
+    }
+    if stands(s, 0, b'I') {
+        return in_line(s);
+    }
+    if stands(s, 0, b'X') {
+        return out_line(s);
     }
     if stands(s, 0, b'M') {
         return limits_line(s);

@@ -6,11 +6,12 @@ use reader::record_at;
 use records::SIZE;
 use sheet::Said;
 ghost use mathlib.Core.Path.{_≡_};
+ghost use mathlib.Core.List.{[], _∷_};
 ghost use Prim.Native.Nat.{_+_, _*_, _≤_};
 ghost use lib.ListN.{length};
 ghost use Rattle.records.specs.Records.{recordSize};
 ghost use Rattle.sheet.specs.Calls.{numberOf};
-ghost use Rattle.printing.specs.Printing.{Put};
+ghost use Rattle.printing.specs.Printing.{Put, printed};
 ghost use Rattle.replies.specs.Replies.{refusalText, saidText, restoredText};
 ghost use Rattle.replies.specs.Work.{recordLine, recordLines};
 
@@ -34,12 +35,40 @@ pub fn number_of(said: Said) -> usize
             new: _,
             standing: _,
         } => 0,
+        Said::PutIn {
+            place: _,
+            byte: _,
+            n: _,
+            standing: _,
+        } => 0,
+        Said::TakeOut {
+            place: _,
+            byte: _,
+            n: _,
+            standing: _,
+        } => 0,
         Said::Limits {
             now: _,
             standing: _,
         } => 0,
         Said::No { number } => number,
     }
+}
+
+// The line of a letter put in or taken out: its place, the letter, how many letters there are, how many changes stand.
+fn put_shift(
+    out: &mut [u8],
+    at: usize,
+    mark: u8,
+    place: usize,
+    byte: u8,
+    n: usize,
+    standing: usize,
+) -> usize
+    ensures { λ r. ⌜ Put (now (out .entry)) at (printed mark (place ∷ byte ∷ n ∷ standing ∷ [])) r (now (out .exit)) ⌝ }
+{
+    let numbers = [place, byte as usize, n, standing];
+    put_line(out, at, mark, &numbers)
 }
 
 // The line of what a call says, from a place on.
@@ -60,6 +89,18 @@ pub fn put_said(out: &mut [u8], at: usize, said: Said) -> usize
             let numbers = [place, old as usize, new as usize, standing];
             put_line(out, at, b'L', &numbers)
         }
+        Said::PutIn {
+            place,
+            byte,
+            n,
+            standing,
+        } => put_shift(out, at, b'I', place, byte, n, standing),
+        Said::TakeOut {
+            place,
+            byte,
+            n,
+            standing,
+        } => put_shift(out, at, b'X', place, byte, n, standing),
         Said::Limits { now, standing } => {
             let numbers = [now.kind, now.m, now.g, now.d, standing];
             put_line(out, at, b'M', &numbers)

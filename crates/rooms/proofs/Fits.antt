@@ -20,23 +20,25 @@ use Rattle.tilings.specs.Tilings.{Part, Given}
 use Rattle.boards.specs.Pieces.{board}
 use Rattle.questions.specs.Tiling.{figures}
 use Rattle.questions.specs.declared.Answer.{Answer}
-use Rattle.changes.specs.Changes.{doneOf, backOf, accepts}
+use Rattle.changes.specs.Changes.{doneOf, backOf, lengthBy, letterFault, editFaults, accepts}
 use Rattle.changes.specs.declared.Change.{Change}
-use Rattle.changes.specs.declared.Change.the-variants.{Letter as ChangedLetter, Limits as ChangedLimits}
+use Rattle.changes.specs.declared.Change.the-variants.{Letter as ChangedLetter, Limits as ChangedLimits, PutIn as DidPutIn, TakeOut as DidTakeOut}
 use Rattle.changes.specs.declared.Edit.{Edit}
-use Rattle.changes.specs.declared.Edit.the-variants.{Letter as EditLetter, Limits as EditLimits}
+use Rattle.changes.specs.declared.Edit.the-variants.{Letter as EditLetter, Limits as EditLimits, PutIn as EditPutIn, TakeOut as EditTakeOut}
+use Rattle.changes.proofs.Accepting.{accepted-limits, accepts-fits, fits-letter, fits-in, fits-out}
+use Rattle.shifts.specs.Shifts.{replacing}
 use Rattle.sheet.specs.Bounds.{textOf, inBounds}
-use Rattle.sheet.specs.Calls.{answered, saidBy, applied, changed, letterFaults, letterCall, limitsCallFaults, limitsCall, newestOf, lastTaken, takeBackFaults, takeBackCall, putAgainFaults, putAgainCall, openCall}
+use Rattle.sheet.specs.Calls.{answered, saidOf, applied, changed, changeFaults, changeCall, newestOf, lastTaken, takeBackFaults, takeBackCall, putAgainFaults, putAgainCall, openCall}
 use Rattle.sheet.specs.Question.{SheetReply}
 use Rattle.sheet.specs.declared.Said.{Said}
 use Rattle.sheet.specs.declared.Sheet.{Sheet}
 use Rattle.sheet.specs.declared.Reply.{Reply}
 use Rattle.sheet.proofs.Asked.{sheet-laws}
-use Rattle.sheet.proofs.Replying.{answer-no, answer-yes, pop-some, place-inside, newest-back, last-done, letter-sound, limits-sound}
+use Rattle.sheet.proofs.Replying.{answer-no, answer-yes, change-sound, back-accepted, done-accepted}
 use Rattle.sheet.proofs.Within.{bounds}
-use Rattle.lines.specs.Lines.{Short, Reads}
+use Rattle.lines.specs.Lines.{change, Short, Proper, Reads}
 use Rattle.lines.specs.declared.Line.{Line}
-use Rattle.lines.specs.declared.Line.the-variants.{Open, Letter, Limits as NewLimits, TakeBack, PutAgain, Question, Unknown}
+use Rattle.lines.specs.declared.Line.the-variants.{Open, Change as Changing, TakeBack, PutAgain, Question, Unknown}
 use Rattle.replies.specs.Replies.{refusalText, saidText, restoredText, tilingText}
 use Rattle.desk.specs.Desk.{mapOf, withSheet, opening, calling, Shown, Does}
 use Rattle.desk.specs.declared.Desk.{Desk}
@@ -64,42 +66,62 @@ answered-small faults s accepted h a = go (eqb (firstFault faults) 0) refl
 abbrev ByteOf : Edit → Type 0
 ByteOf (EditLetter p b) = b < 256
 ByteOf (EditLimits l) = Unit {0}
+ByteOf (EditPutIn p b) = b < 256
+ByteOf (EditTakeOut p) = Unit {0}
 
--- so does one that takes back a kept change
+-- so does one that a line asks for
+asked-byte : (e : Edit) → Proper (change e) → ByteOf e
+asked-byte (EditLetter p b) h = omega (arith, h .1)
+asked-byte (EditLimits l) h = tt
+asked-byte (EditPutIn p b) h = omega (arith, h .1)
+asked-byte (EditTakeOut p) h = tt
+
+-- one that takes back a kept change
 back-byte : (c : Change) → LettersOf c → ByteOf (backOf c)
 back-byte (ChangedLetter p old new) h = h .0
 back-byte (ChangedLimits old new) h = tt
+back-byte (DidPutIn p b) h = tt
+back-byte (DidTakeOut p b) h = h
 
 -- and one that makes it again
 done-byte : (c : Change) → LettersOf c → ByteOf (doneOf c)
 done-byte (ChangedLetter p old new) h = h .1
 done-byte (ChangedLimits old new) h = tt
+done-byte (DidPutIn p b) h = h
+done-byte (DidTakeOut p b) h = tt
 
 -- each call on a sheet says short numbers
 module _ (s : Sheet) (b : Bytes s) where
   -- an edit that is accepted, with k changes standing
-  edit-small : (e : Edit) (k : ℕ) → s .n ≤ 1000 → accepts (s .n) (s .alphabet) e ≡ true → ByteOf e → k ≤ 64 → Small (saidBy e s k)
-  unfolding accepts
+  edit-small : (e : Edit) (k : ℕ) → s .n ≤ 1000 → accepts (s .n) (s .alphabet) e ≡ true → ByteOf e → k ≤ 64 → Small (saidOf (replacing e (s .letters) (s .limits)) (lengthBy e (s .n)) k)
+  unfolding replacing
   edit-small (EditLetter p c) k n a h few =
-      record { number = omega arith; values = (omega (arith, place-inside (s .n) (s .alphabet) p c a), (omega (arith, b .letters p), (omega arith, (omega arith, tt)))) }
+      let w = fits-letter (s .n) p c (accepts-fits (s .n) (s .alphabet) (EditLetter p c) a) in
+      record { number = omega arith; values = (omega arith, (omega (arith, b .letters p), (omega arith, (omega arith, tt)))) }
   edit-small (EditLimits l) k n a h few =
-      let w = sound-limits l (eqb-true _ _ a) in
+      let w = sound-limits l (accepted-limits (s .n) (s .alphabet) l a) in
       let kind : l .kind ≤ 2 = ⊎-elim (λ (e : l .kind ≡ 1). omega arith) (λ (e : l .kind ≡ 2). omega arith) (w .kind) in
       record { number = omega arith; values = (omega arith, (omega (arith, w .short), (omega (arith, w .few), (omega (arith, w .near), (omega arith, tt))))) }
+  edit-small (EditPutIn p c) k n a h few =
+      let w = fits-in (s .n) p c (accepts-fits (s .n) (s .alphabet) (EditPutIn p c) a) in
+      record { number = omega arith; values = (omega arith, (omega arith, (omega arith, (omega arith, tt)))) }
+  edit-small (EditTakeOut p) k n a h few =
+      let w = fits-out (s .n) p (accepts-fits (s .n) (s .alphabet) (EditTakeOut p) a) in
+      record { number = omega arith; values = (omega arith, (omega (arith, b .letters p), (omega arith, (omega arith, tt)))) }
 
-  -- a letter
-  letter-small : (p c : ℕ) → c ≤ 255 → Small (letterCall s p c .said)
-  unfolding letterFaults changed
-  letter-small p c h =
-      answered-small (letterFaults s p c) _ _ (omega arith, (omega arith, (omega arith, (omega arith, tt))))
-      (λ e. let w = letter-sound s p c e in edit-small (EditLetter p c) (s .standing + 1) (w .0) (w .1) (omega arith) (omega (arith, w .2)))
+  -- a call for a change
+  faults-short : (e : Edit) → Short (numbers (changeFaults s e))
+  unfolding changeFaults editFaults letterFault limitsFaults
+  faults-short (EditLetter p c) = (omega arith, (omega arith, (omega arith, (omega arith, tt))))
+  faults-short (EditLimits l) = (omega arith, (omega arith, (omega arith, (omega arith, tt))))
+  faults-short (EditPutIn p c) = (omega arith, (omega arith, (omega arith, (omega arith, (omega arith, tt)))))
+  faults-short (EditTakeOut p) = (omega arith, (omega arith, (omega arith, tt)))
 
-  -- limits
-  limits-small : (l : Limits) → Small (limitsCall s l .said)
-  unfolding limitsCallFaults limitsFaults changed
-  limits-small l =
-      answered-small (limitsCallFaults s l) _ _ (omega arith, (omega arith, (omega arith, (omega arith, tt))))
-      (λ e. let w = limits-sound s l e in edit-small (EditLimits l) (s .standing + 1) (w .0) (w .1) tt (omega (arith, w .2)))
+  change-small : (e : Edit) → ByteOf e → Small (changeCall s e .said)
+  unfolding changed
+  change-small e h =
+      answered-small (changeFaults s e) _ _ (faults-short e)
+      (λ z. let w = change-sound s e z in edit-small e (s .standing + 1) (w .0) (w .1) h (omega (arith, w .2)))
 
   -- past 24 and the test after it there is a change to take back, or to put again
   there-is : (k many : ℕ) → 0 < k → 0 ≡ firstFault ((24, not (inBounds s)) ∷ (k, eqb many 0) ∷ []) → (inBounds s ≡ true) × (many ≡ 0 → ⊥)
@@ -114,7 +136,7 @@ module _ (s : Sheet) (b : Bytes s) where
       answered-small (takeBackFaults s) _ _ (omega arith, (omega arith, tt))
       (λ e.
       let (i, some) = there-is 8 (s .standing) (omega arith) e in
-      edit-small (backOf (newestOf s)) (s .standing - 1) (bounds s i .letters) (newest-back s (newestOf s) i (sym (pop-some 8 (s .standing) (newestOf s) some .0)))
+      edit-small (backOf (newestOf s)) (s .standing - 1) (bounds s i .letters) (back-accepted s i some)
       (back-byte (newestOf s) (b .kept (s .standing - 1))) (omega (arith, bounds s i .few)))
 
   -- a put-again
@@ -124,7 +146,7 @@ module _ (s : Sheet) (b : Bytes s) where
       answered-small (putAgainFaults s) _ _ (omega arith, (omega arith, tt))
       (λ e.
       let (i, some) = there-is 9 (s .taken) (omega arith) e in
-      edit-small (doneOf (lastTaken s)) (s .standing + 1) (bounds s i .letters) (last-done s (lastTaken s) i (sym (pop-some 9 (s .taken) (lastTaken s) some .0)))
+      edit-small (doneOf (lastTaken s)) (s .standing + 1) (bounds s i .letters) (done-accepted s i some)
       (done-byte (lastTaken s) (b .kept (s .standing))) (omega (arith, bounds s i .few)))
 
 -- so does an opening
@@ -164,8 +186,7 @@ module _ (d : Desk) (xs : List ℕ) (b : Bytes (d .sheet)) (t t′ m m′ : List
   text-length : (line : Line) (o : Desk × List ℕ) → Reads xs line → Does d xs line t t′ m m′ o → length (o .1) ≤ 65536
   unfolding opening
   text-length (Open l c from) o q p = rw (p .0) (omega (arith, said-length _ (open-small (textAll (drop from xs) (mapOf c)) l)))
-  text-length (Letter a c) o q p = rw (p .0) (calling-length d _ saidText (omega (arith, said-length _ (letter-small (d .sheet) b a c (q .proper .1)))))
-  text-length (NewLimits l) o q p = rw (p .0) (calling-length d _ saidText (omega (arith, said-length _ (limits-small (d .sheet) b l))))
+  text-length (Changing e) o q p = rw (p .0) (calling-length d _ saidText (omega (arith, said-length _ (change-small (d .sheet) b e (asked-byte e (q .proper))))))
   text-length TakeBack o q p = rw (p .0) (calling-length d _ (restoredText 66) (restored-length 66 _ (back-small (d .sheet) b)))
   text-length PutAgain o q p = rw (p .0) (calling-length d _ (restoredText 65) (restored-length 65 _ (again-small (d .sheet) b)))
   text-length Question o q (inl p) = rw (p .1) (omega (arith, refusal-length 14 (omega arith)))

@@ -6,8 +6,8 @@ use lib.ListN.{length, getD}
 use Rattle.terms.specs.Refusals.{OneOf}
 use Rattle.questions.specs.declared.Answer.{Answer}
 use Rattle.changes.specs.declared.Change.{Change}
-use Rattle.changes.specs.declared.Change.the-variants.{Letter, Limits}
-use Rattle.sheet.specs.Bounds.{keptAt}
+use Rattle.changes.specs.declared.Change.the-variants.{Letter, Limits, PutIn, TakeOut}
+use Rattle.kept.specs.Lists.{keptAt}
 use Rattle.sheet.specs.Question.{SheetReply}
 use Rattle.sheet.specs.declared.Sheet.{Sheet}
 use Rattle.desk.specs.Desk.{DeskReply}
@@ -24,6 +24,8 @@ RoomEnough =
 abbrev pub LettersOf : Change → Type 0
 LettersOf (Letter p old new) = (old < 256) × (new < 256)
 LettersOf (Limits old new) = Unit {0}
+LettersOf (PutIn p b) = b < 256
+LettersOf (TakeOut p b) = b < 256
 
 pub record Bytes (s : Sheet) : Type 0 where
   pub letters : (i : ℕ) → getD (s .letters) i 0 < 256

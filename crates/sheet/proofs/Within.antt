@@ -1,22 +1,16 @@
 -- What the bounds of a sheet ask, one by one. Assumes nothing.
 use mathlib.Core.Path.{_≡_}
-use mathlib.Core.Bool.{Bool, true, false}
-use mathlib.Core.List.{List}
+use mathlib.Core.Bool.{true, false}
 use Prim.Native.Nat.{ℕ, _+_, _≤_, _<_}
 use borrow.Author.Tests.{le-leb, lt-leb, leb-true, eq-eqb, ne-eqb, eqb-true}
 use lib.Dec.{leb, eqb}
 use Rattle.terms.specs.Refusals.{firstFault}
-use Rattle.terms.specs.Maps.{everyBelow}
 use Rattle.terms.specs.Texts.{openingFaults}
 use Rattle.terms.proofs.Below.{and-left, and-right}
-use Rattle.changes.specs.Changes.{acceptsChange}
-use Rattle.sheet.specs.Bounds.{textOf, keptAt, inBounds}
-use Rattle.sheet.specs.declared.Kept.{Kept}
+use Rattle.kept.specs.Lists.{keptAccepted}
+use Rattle.kept.proofs.Walking.{kept-few}
+use Rattle.sheet.specs.Bounds.{textOf, inBounds}
 use Rattle.sheet.specs.declared.Sheet.{Sheet}
-
--- Each of the first k kept changes is one that its call would accept, on n letters of the alphabet z.
-abbrev pub AllAccepted : ℕ → List ℕ → List Kept → ℕ → Bool
-AllAccepted n z ks k = everyBelow k (λ i. acceptsChange n z (keptAt ks i))
 
 -- The first refusal of an opening with what the sheet holds.
 abbrev pub opening : Sheet → ℕ
@@ -33,21 +27,16 @@ module _ (s : Sheet) where
     unfolding inBounds
     out-opening h = simp (le-leb _ _ n, ne-eqb _ _ h)
 
-    module _ (o : opening s ≡ 0) where
-      pub out-count : 64 < s .standing + s .taken → inBounds s ≡ false
-      unfolding inBounds
-      out-count h = simp (le-leb _ _ n, eq-eqb _ _ o, lt-leb _ _ h)
-
-      pub within : s .standing + s .taken ≤ 64 → inBounds s ≡ AllAccepted (s .n) (s .alphabet) (s .kept) (s .standing + s .taken)
-      unfolding inBounds
-      within h = simp (le-leb _ _ n, eq-eqb _ _ o, le-leb _ _ h)
+    pub within : opening s ≡ 0 → inBounds s ≡ keptAccepted (s .n) (s .alphabet) (s .kept) (s .standing) (s .taken)
+    unfolding inBounds
+    within o = simp (le-leb _ _ n, eq-eqb _ _ o)
 
 -- What a sheet in its bounds has.
 pub record Within (s : Sheet) : Type 0 where
   pub letters : s .n ≤ 1000
   pub opens : opening s ≡ 0
   pub few : s .standing + s .taken ≤ 64
-  pub kept : AllAccepted (s .n) (s .alphabet) (s .kept) (s .standing + s .taken) ≡ true
+  pub kept : keptAccepted (s .n) (s .alphabet) (s .kept) (s .standing) (s .taken) ≡ true
 
 pub bounds : (s : Sheet) → inBounds s ≡ true → Within s
 unfolding inBounds
@@ -57,6 +46,6 @@ bounds s w =
     record {
       letters = leb-true _ _ (and-left _ _ w);
       opens = eqb-true _ _ (and-left _ _ a);
-      few = leb-true _ _ (and-left _ _ b);
-      kept = and-right (leb (s .standing + s .taken) 64) _ b;
+      few = kept-few (s .n) (s .alphabet) (s .kept) (s .standing) (s .taken) b;
+      kept = b;
     }

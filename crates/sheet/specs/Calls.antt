@@ -4,24 +4,24 @@ use mathlib.Core.Bool.{Bool, not, cond}
 use mathlib.Core.List.{List, [], _∷_, _++_}
 use Prim.Native.Nat.{ℕ, _+_, _-_}
 use lib.Dec.{eqb, leb}
-use lib.ListN.{getD, set, length, replicate}
+use lib.ListN.{set, length, replicate}
 use Rattle.terms.specs.Sizes.{mostChanges}
 use Rattle.terms.specs.Refusals.{firstFault}
 use Rattle.terms.specs.Maps.{plainMap}
-use Rattle.terms.specs.Alphabets.{isIn}
-use Rattle.terms.specs.Limits.{limitsFaults}
 use Rattle.terms.specs.Texts.{Text, textAll, openingFaults}
 use Rattle.terms.specs.declared.limits.Limits.{Limits}
-use Rattle.changes.specs.Changes.{doneOf, backOf}
+use Rattle.changes.specs.Changes.{doneOf, backOf, lengthBy, limitsBy, editFaults}
 use Rattle.changes.specs.declared.Change.{Change}
-use Rattle.changes.specs.declared.Change.the-variants.{Letter as ChangedLetter, Limits as ChangedLimits}
+use Rattle.changes.specs.declared.Change.the-variants.{Letter as ChangedLetter, Limits as ChangedLimits, PutIn as DidPutIn, TakeOut as DidTakeOut}
 use Rattle.changes.specs.declared.Edit.{Edit}
-use Rattle.changes.specs.declared.Edit.the-variants.{Letter as EditLetter, Limits as EditLimits}
+use Rattle.changes.specs.declared.Edit.the-variants.{Letter as EditLetter, Limits as EditLimits, PutIn as EditPutIn, TakeOut as EditTakeOut}
+use Rattle.shifts.specs.Shifts.{lettersBy, replacing}
+use Rattle.kept.specs.Lists.{noChange, keptAt}
+use Rattle.kept.specs.declared.Kept.{Kept}
 use Rattle.places.specs.Places.{padded}
-use Rattle.sheet.specs.Bounds.{noChange, keptAt, inBounds}
-use Rattle.sheet.specs.declared.Kept.{Kept}
+use Rattle.sheet.specs.Bounds.{inBounds}
 use Rattle.sheet.specs.declared.Said.{Said}
-use Rattle.sheet.specs.declared.Said.the-variants.{Letter as SaidLetter, Limits as SaidLimits, Opened, No}
+use Rattle.sheet.specs.declared.Said.the-variants.{Letter as SaidLetter, Limits as SaidLimits, PutIn as SaidPutIn, TakeOut as SaidTakeOut, Opened, No}
 use Rattle.sheet.specs.declared.Sheet.{Sheet}
 use Rattle.sheet.specs.declared.Reply.{Reply}
 
@@ -29,12 +29,16 @@ use Rattle.sheet.specs.declared.Reply.{Reply}
 abbrev pub numberOf : Said → ℕ
 numberOf (SaidLetter p old new k) = 0
 numberOf (SaidLimits l k) = 0
+numberOf (SaidPutIn p b n k) = 0
+numberOf (SaidTakeOut p b n k) = 0
 numberOf (Opened n) = 0
 numberOf (No k) = k
 
 abbrev pub valuesOf : Said → List ℕ
 valuesOf (SaidLetter p old new k) = p ∷ old ∷ new ∷ k ∷ []
 valuesOf (SaidLimits l k) = l .kind ∷ l .m ∷ l .g ∷ l .d ∷ k ∷ []
+valuesOf (SaidPutIn p b n k) = p ∷ b ∷ n ∷ k ∷ []
+valuesOf (SaidTakeOut p b n k) = p ∷ b ∷ n ∷ k ∷ []
 valuesOf (Opened n) = n ∷ 0 ∷ []
 valuesOf (No k) = 0 ∷ 0 ∷ 0 ∷ 0 ∷ []
 
@@ -52,53 +56,73 @@ pub record CallReply (faults : List (ℕ × Bool)) (reply r : Reply) : Type 0 wh
   pub number : numberOf (r .said) ≡ firstFault faults
   pub zeros : (numberOf (r .said) ≡ 0 → ⊥) → valuesOf (r .said) ≡ 0 ∷ 0 ∷ 0 ∷ 0 ∷ []
 
--- What an edit makes of letters and limits, and what is said of it: place, letter replaced, letter now there; or the limits in force.
-abbrev pub lettersBy : Edit → List ℕ → List ℕ
-lettersBy (EditLetter p b) x = set x p b
-lettersBy (EditLimits l) x = x
-
-abbrev pub limitsBy : Edit → Limits → Limits
-limitsBy (EditLetter p b) l = l
-limitsBy (EditLimits l′) l = l′
-
-abbrev pub saidBy : Edit → Sheet → ℕ → Said
-saidBy (EditLetter p b) s k = SaidLetter p (getD (s .letters) p 0) b k
-saidBy (EditLimits l) s k = SaidLimits l k
+-- What is said of a change that leaves n letters and k standing: place, letter replaced, letter now there; or the limits in force; or place, letter put in or taken out, n.
+abbrev pub saidOf : Change → ℕ → ℕ → Said
+saidOf (ChangedLetter p old new) n k = SaidLetter p old new k
+saidOf (ChangedLimits old new) n k = SaidLimits new k
+saidOf (DidPutIn p b) n k = SaidPutIn p b n k
+saidOf (DidTakeOut p b) n k = SaidTakeOut p b n k
 
 -- An edit made, and said back with the number standing; the kept changes become ks, the two counts st and tk.
 abbrev pub editing : Sheet → Edit → List Kept → ℕ → ℕ → Reply
 editing s e ks st tk =
     record {
-      sheet = record { letters = lettersBy e (s .letters); n = s .n; map = s .map; alphabet = s .alphabet; limits = limitsBy e (s .limits); kept = ks; standing = st; taken = tk };
-      said = saidBy e s st;
+      sheet =
+          record {
+            letters = lettersBy e (s .n) (s .letters);
+            n = lengthBy e (s .n);
+            map = s .map;
+            alphabet = s .alphabet;
+            limits = limitsBy e (s .limits);
+            kept = ks;
+            standing = st;
+            taken = tk;
+          };
+      said = saidOf (replacing e (s .letters) (s .limits)) (lengthBy e (s .n)) st;
     }
 
 -- An edit made over the same kept changes.
 unfoldable pub applied : Sheet → Edit → ℕ → ℕ → Reply
 applied s e st tk = editing s e (s .kept) st tk
 
--- The change that an edit makes here, with what it replaces.
-unfoldable pub replacing : Sheet → Edit → Change
-replacing s (EditLetter p b) = ChangedLetter p (getD (s .letters) p 0) b
-replacing s (EditLimits l) = ChangedLimits (s .limits) l
-
 -- An accepted change joins the standing list as its newest and empties the taken-back list.
 unfoldable pub changed : Sheet → Edit → Reply
-changed s e = editing s e (set (s .kept) (s .standing) (record { what = replacing s e })) (s .standing + 1) 0
+changed s e = editing s e (set (s .kept) (s .standing) (record { what = replacing e (s .letters) (s .limits) })) (s .standing + 1) 0
 
--- Every call on a sheet: 24 first. Letter: 6, 19, 7.
-unfoldable pub letterFaults : Sheet → ℕ → ℕ → List (ℕ × Bool)
-letterFaults s p b = (24, not (inBounds s)) ∷ (6, leb (s .n) p) ∷ (19, not (isIn (s .alphabet) b)) ∷ (7, leb mostChanges (s .standing)) ∷ []
+-- Every call on a sheet: 24 first. A call for a change: then what it refuses of the edit, then 7.
+unfoldable pub changeFaults : Sheet → Edit → List (ℕ × Bool)
+changeFaults s e = (24, not (inBounds s)) ∷ editFaults (s .n) (s .alphabet) e ++ (7, leb mostChanges (s .standing)) ∷ []
+
+abbrev pub changeCall : Sheet → Edit → Reply
+changeCall s e = answered (changeFaults s e) s (changed s e)
+
+-- Letter: 6, 19, 7.
+abbrev pub letterFaults : Sheet → ℕ → ℕ → List (ℕ × Bool)
+letterFaults s p b = changeFaults s (EditLetter p b)
 
 abbrev pub letterCall : Sheet → ℕ → ℕ → Reply
-letterCall s p b = answered (letterFaults s p b) s (changed s (EditLetter p b))
+letterCall s p b = changeCall s (EditLetter p b)
+
+-- Put in before place p: 6, 1, 19, 7.
+abbrev pub putInFaults : Sheet → ℕ → ℕ → List (ℕ × Bool)
+putInFaults s p b = changeFaults s (EditPutIn p b)
+
+abbrev pub putInCall : Sheet → ℕ → ℕ → Reply
+putInCall s p b = changeCall s (EditPutIn p b)
+
+-- Take out: 6, 7.
+abbrev pub takeOutFaults : Sheet → ℕ → List (ℕ × Bool)
+takeOutFaults s p = changeFaults s (EditTakeOut p)
+
+abbrev pub takeOutCall : Sheet → ℕ → Reply
+takeOutCall s p = changeCall s (EditTakeOut p)
 
 -- Limits: 4, 5, 7.
-unfoldable pub limitsCallFaults : Sheet → Limits → List (ℕ × Bool)
-limitsCallFaults s l = (24, not (inBounds s)) ∷ limitsFaults l ++ (7, leb mostChanges (s .standing)) ∷ []
+abbrev pub limitsCallFaults : Sheet → Limits → List (ℕ × Bool)
+limitsCallFaults s l = changeFaults s (EditLimits l)
 
 abbrev pub limitsCall : Sheet → Limits → Reply
-limitsCall s l = answered (limitsCallFaults s l) s (changed s (EditLimits l))
+limitsCall s l = changeCall s (EditLimits l)
 
 -- The newest standing change, and the one taken back last.
 abbrev pub newestOf : Sheet → Change

@@ -3,36 +3,28 @@ mod bounds;
 
 use changes::Change;
 use changes::Edit;
+use kept::Kept;
+use kept::Popped;
 use places::letters_of;
 use places::map_of;
 use places::tile_first;
 use questions::Answer;
+use shifts::edited;
+use shifts::replaced;
 use terms::alphabets;
 use terms::limits::Limits;
 use terms::maps;
 ghost use mathlib.Core.Path.{_≡_};
 ghost use mathlib.Core.Bool.{true};
-ghost use mathlib.Core.List.{[], _∷_};
-ghost use Prim.Native.Nat.{_+_, _≤_, _<_};
-ghost use lib.Dec.{eqb, leb};
+ghost use Prim.Native.Nat.{_≤_, _<_};
+ghost use lib.Dec.{leb};
 ghost use Rattle.terms.specs.Sizes.{mostChanges};
 ghost use Rattle.terms.specs.Refusals.{firstFault};
 ghost use Rattle.terms.specs.Texts.{text, openingFaults};
-ghost use Rattle.changes.specs.Changes.{accepts};
-ghost use Rattle.sheet.specs.Calls.{refusing, CallReply, applied, replacing, changed, newestOf, lastTaken, letterFaults, limitsCallFaults, takeBackFaults, putAgainFaults, letterCall, limitsCall, takeBackCall, putAgainCall, blankSheet, openCall};
+ghost use Rattle.changes.specs.Work.{fits};
+ghost use Rattle.sheet.specs.Calls.{refusing, CallReply, saidOf, applied, changed, changeFaults, changeCall, letterFaults, putInFaults, takeOutFaults, limitsCallFaults, takeBackFaults, putAgainFaults, letterCall, putInCall, takeOutCall, limitsCall, takeBackCall, putAgainCall, blankSheet, openCall};
 ghost use Rattle.sheet.specs.Question.{SheetReply};
-ghost use Rattle.sheet.specs.Work.{withLetter, unchangedOf, popping, poppedNumber};
-
-// A change as the sheet keeps it: an array of structs, since a field can be no array of enums.
-pub struct Kept {
-    pub what: Change,
-}
-
-// What popping the history answers.
-pub enum Popped {
-    Change(Change),
-    Nothing,
-}
+ghost use Rattle.sheet.specs.Work.{unchangedOf};
 
 // What a call says back; for a refusal, its number.
 pub enum Said {
@@ -46,12 +38,53 @@ pub enum Said {
         now: Limits,
         standing: usize,
     },
+    PutIn {
+        place: usize,
+        byte: u8,
+        n: usize,
+        standing: usize,
+    },
+    TakeOut {
+        place: usize,
+        byte: u8,
+        n: usize,
+        standing: usize,
+    },
     Opened {
         n: usize,
     },
     No {
         number: usize,
     },
+}
+
+impl Said {
+    // What is said back of a change that leaves n letters, with the number standing.
+    fn of(c: Change, n: usize, standing: usize) -> Said
+        ensures { λ r. ⌜ r ≡ saidOf c n standing ⌝ }
+    {
+        match c {
+            Change::Letter { place, old, new } => Said::Letter {
+                place,
+                old,
+                new,
+                standing,
+            },
+            Change::Limits { old: _, new } => Said::Limits { now: new, standing },
+            Change::PutIn { place, byte } => Said::PutIn {
+                place,
+                byte,
+                n,
+                standing,
+            },
+            Change::TakeOut { place, byte } => Said::TakeOut {
+                place,
+                byte,
+                n,
+                standing,
+            },
+        }
+    }
 }
 
 // kept[0..standing] stand, oldest first; kept[standing..standing + taken] are taken back, the next to put again first.
@@ -83,35 +116,6 @@ impl Sheet {
     {
         let said = Said::No { number };
         Reply { sheet: self, said }
-    }
-
-    // Pops the newest standing change, if any stands.
-    fn newest(self) -> Popped
-        requires { ⌜ self .standing ≤ 64 ⌝ }
-        ensures { λ r. ⌜ (r ≡ popping (self .standing) (newestOf self)) × (poppedNumber 8 r ≡ firstFault ((8, eqb (self .standing) 0) ∷ [])) ⌝ }
-    {
-        let standing = self.standing;
-        if standing == 0 {
-            return Popped::Nothing;
-        }
-        let k = self.kept[standing - 1];
-        let c = k.what;
-        Popped::Change(c)
-    }
-
-    // Pops the change that was taken back last, if any was.
-    fn last_taken(self) -> Popped
-        requires { ⌜ self .standing + self .taken ≤ 64 ⌝ }
-        ensures { λ r. ⌜ (r ≡ popping (self .taken) (lastTaken self)) × (poppedNumber 9 r ≡ firstFault ((9, eqb (self .taken) 0) ∷ [])) ⌝ }
-    {
-        let standing = self.standing;
-        let taken = self.taken;
-        if taken == 0 {
-            return Popped::Nothing;
-        }
-        let k = self.kept[standing];
-        let c = k.what;
-        Popped::Change(c)
     }
 
     // A sheet with no changes, over letters in their places.
@@ -180,82 +184,41 @@ impl Sheet {
         }
     }
 
-    // The sheet with a letter written in its place.
-    fn with_letter(self, place: usize, byte: u8) -> Sheet
-        requires { ⌜ place < 1000 ⌝ }
-        ensures { λ r. ⌜ r ≡ withLetter self place byte ⌝ }
-    {
-        let mut next = self;
-        next.letters[place] = byte;
-        next
-    }
-
     // Makes an edit, sets the counts, and says the edit back.
     fn apply(self, e: Edit, standing: usize, taken: usize) -> Reply
-        requires { ⌜ (self .n ≤ 1000) × (accepts (self .n) (self .alphabet) e ≡ true) ⌝ }
+        requires { ⌜ (self .n ≤ 1000) × (fits (self .n) e ≡ true) ⌝ }
         ensures { λ r. ⌜ r ≡ applied self e standing taken ⌝ }
     {
+        let n = self.n;
+        let letters = self.letters;
+        let limits = self.limits;
+        let n_after = e.length_after(n);
+        let letters_after = edited(letters, n, e);
+        let limits_after = e.limits_after(limits);
+        let said = Said::of(replaced(letters, limits, e), n_after, standing);
         let mut next = self;
+        next.letters = letters_after;
+        next.n = n_after;
+        next.limits = limits_after;
         next.standing = standing;
         next.taken = taken;
-        match e {
-            Edit::Letter { place, byte } => {
-                let old = next.letters[place];
-                Reply {
-                    sheet: next.with_letter(place, byte),
-                    said: Said::Letter {
-                        place,
-                        old,
-                        new: byte,
-                        standing,
-                    },
-                }
-            }
-            Edit::Limits { limits } => {
-                next.limits = limits;
-                Reply {
-                    sheet: next,
-                    said: Said::Limits {
-                        now: limits,
-                        standing,
-                    },
-                }
-            }
-        }
-    }
-
-    // The change that an edit makes here, with what it replaces.
-    fn replaced(self, e: Edit) -> Change
-        requires { ⌜ (self .n ≤ 1000) × (accepts (self .n) (self .alphabet) e ≡ true) ⌝ }
-        ensures { λ r. ⌜ r ≡ replacing self e ⌝ }
-    {
-        match e {
-            Edit::Letter { place, byte } => Change::Letter {
-                place,
-                old: self.letters[place],
-                new: byte,
-            },
-            Edit::Limits { limits } => {
-                let old = self.limits;
-                Change::Limits { old, new: limits }
-            }
-        }
+        Reply { sheet: next, said }
     }
 
     // Makes an edit, keeps it as the newest change, and empties the list of those taken back.
     fn change(self, e: Edit) -> Reply
-        requires { ⌜ (self .n ≤ 1000) × (accepts (self .n) (self .alphabet) e ≡ true) × (self .standing < 64) ⌝ }
+        requires { ⌜ (self .n ≤ 1000) × (fits (self .n) e ≡ true) × (self .standing < 64) ⌝ }
         ensures { λ r. ⌜ r ≡ changed self e ⌝ }
     {
         let at = self.standing;
+        let letters = self.letters;
+        let limits = self.limits;
         let k = Kept {
-            what: self.replaced(e),
+            what: replaced(letters, limits, e),
         };
-        let r = self.apply(e, at + 1, 0);
-        let mut next = r.sheet;
+        let mut next = self;
         next.kept[at] = k;
-        let said = r.said;
-        Reply { sheet: next, said }
+        next.apply(e, at + 1, 0)
     }
 
     // Whether 64 changes stand.
@@ -265,45 +228,16 @@ impl Sheet {
         Sheet::CHANGES <= self.standing
     }
 
-    // The first refusal of a letter call, 0 where there is none.
-    fn letter_refusal(self, place: usize, byte: u8) -> usize
-        ensures { λ r. ⌜ r ≡ firstFault (letterFaults self place byte) ⌝ }
+    // The first refusal of a call for a change, 0 where there is none.
+    fn change_refusal(self, e: Edit) -> usize
+        ensures { λ r. ⌜ r ≡ firstFault (changeFaults self e) ⌝ }
     {
         if !self.in_bounds() {
             return 24;
         }
-        if self.n <= place {
-            return 6;
-        }
+        let n = self.n;
         let alphabet = self.alphabet;
-        if !alphabets::is_in(&alphabet, byte) {
-            return 19;
-        }
-        if self.full() {
-            return 7;
-        }
-        0
-    }
-
-    // Puts a letter in its place.
-    pub fn put_letter(self, place: usize, byte: u8) -> Reply
-        ensures { λ r. ⌜ CallReply (letterFaults self place byte) (letterCall self place byte) r ⌝ }
-    {
-        let number = self.letter_refusal(place, byte);
-        if number != 0 {
-            return self.refused(number);
-        }
-        self.change(Edit::Letter { place, byte })
-    }
-
-    // The first refusal of a limits call, 0 where there is none.
-    fn limits_refusal(self, limits: Limits) -> usize
-        ensures { λ r. ⌜ r ≡ firstFault (limitsCallFaults self limits) ⌝ }
-    {
-        if !self.in_bounds() {
-            return 24;
-        }
-        let number = limits.refusal();
+        let number = e.refusal(n, &alphabet);
         if number != 0 {
             return number;
         }
@@ -313,15 +247,43 @@ impl Sheet {
         0
     }
 
+    // Makes the change that an edit asks for, or refuses it: what every call for a change does.
+    pub fn ask(self, e: Edit) -> Reply
+        ensures { λ r. ⌜ CallReply (changeFaults self e) (changeCall self e) r ⌝ }
+    {
+        let refusal = self.change_refusal(e);
+        if refusal != 0 {
+            return self.refused(refusal);
+        }
+        self.change(e)
+    }
+
+    // Puts a letter in its place.
+    pub fn put_letter(self, place: usize, byte: u8) -> Reply
+        ensures { λ r. ⌜ CallReply (letterFaults self place byte) (letterCall self place byte) r ⌝ }
+    {
+        self.ask(Edit::Letter { place, byte })
+    }
+
+    // Puts a letter in before a place; at place n behind the last one.
+    pub fn put_in(self, place: usize, byte: u8) -> Reply
+        ensures { λ r. ⌜ CallReply (putInFaults self place byte) (putInCall self place byte) r ⌝ }
+    {
+        self.ask(Edit::PutIn { place, byte })
+    }
+
+    // Takes the letter at a place out.
+    pub fn take_out(self, place: usize) -> Reply
+        ensures { λ r. ⌜ CallReply (takeOutFaults self place) (takeOutCall self place) r ⌝ }
+    {
+        self.ask(Edit::TakeOut { place })
+    }
+
     // Puts all limits at once.
     pub fn put_limits(self, limits: Limits) -> Reply
         ensures { λ r. ⌜ CallReply (limitsCallFaults self limits) (limitsCall self limits) r ⌝ }
     {
-        let number = self.limits_refusal(limits);
-        if number != 0 {
-            return self.refused(number);
-        }
-        self.change(Edit::Limits { limits })
+        self.ask(Edit::Limits { limits })
     }
 
     // Takes the newest standing change back.
@@ -331,7 +293,8 @@ impl Sheet {
         if !self.in_bounds() {
             return self.refused(24);
         }
-        let Popped::Change(c) = self.newest() else {
+        let kept = self.kept;
+        let Popped::Change(c) = kept::newest(kept, self.standing) else {
             return self.refused(8);
         };
         self.apply(c.back(), self.standing - 1, self.taken + 1)
@@ -344,7 +307,8 @@ impl Sheet {
         if !self.in_bounds() {
             return self.refused(24);
         }
-        let Popped::Change(c) = self.last_taken() else {
+        let kept = self.kept;
+        let Popped::Change(c) = kept::last_taken(kept, self.standing, self.taken) else {
             return self.refused(9);
         };
         self.apply(c.done(), self.standing + 1, self.taken - 1)

@@ -27,46 +27,66 @@ returns-2 c = simp (← (c .before .before .before .before .stands .ensures), c 
 stands-requires-3 : tie.Need-stands-requires-3
 stands-requires-3 c κs = search needs
 
-limits-line-requires : tie.Need-limits-line-requires
-limits-line-requires c κs = search needs
+in-line-requires : tie.Need-in-line-requires
+in-line-requires c κs = search needs
 
 returns-3 : tie.Need-returns-3
 unfolding lineOf
-returns-3 c = simp (← (c .before .before .before .before .before .before .stands .ensures), c .before .before .before .before .before .if1 .left, ← (c .before .before .before .before .stands2 .ensures), c .before .before .before .if2 .left, ← (c .before .before .stands3 .ensures), c .before .if3 .taken, c .limits-line .ensures)
+returns-3 c = simp (← (c .before .before .before .before .before .before .stands .ensures), c .before .before .before .before .before .if1 .left, ← (c .before .before .before .before .stands2 .ensures), c .before .before .before .if2 .left, ← (c .before .before .stands3 .ensures), c .before .if3 .taken, c .in-line .ensures)
 
 stands-requires-4 : tie.Need-stands-requires-4
 stands-requires-4 c κs = search needs
 
-alone-requires : tie.Need-alone-requires
-alone-requires c κs = search needs
+out-line-requires : tie.Need-out-line-requires
+out-line-requires c κs = search needs
 
 returns-4 : tie.Need-returns-4
 unfolding lineOf
-returns-4 c = simp (← (c .before .before .before .before .before .before .before .before .stands .ensures), c .before .before .before .before .before .before .before .if1 .left, ← (c .before .before .before .before .before .before .stands2 .ensures), c .before .before .before .before .before .if2 .left, ← (c .before .before .before .before .stands3 .ensures), c .before .before .before .if3 .left, ← (c .before .before .stands4 .ensures), c .before .if4 .taken, c .alone .ensures)
+returns-4 c = simp (← (c .before .before .before .before .before .before .before .before .stands .ensures), c .before .before .before .before .before .before .before .if1 .left, ← (c .before .before .before .before .before .before .stands2 .ensures), c .before .before .before .before .before .if2 .left, ← (c .before .before .before .before .stands3 .ensures), c .before .before .before .if3 .left, ← (c .before .before .stands4 .ensures), c .before .if4 .taken, c .out-line .ensures)
 
 stands-requires-5 : tie.Need-stands-requires-5
 stands-requires-5 c κs = search needs
 
-alone-requires-2 : tie.Need-alone-requires-2
-alone-requires-2 c κs = search needs
+limits-line-requires : tie.Need-limits-line-requires
+limits-line-requires c κs = search needs
 
 returns-5 : tie.Need-returns-5
 unfolding lineOf
-returns-5 c = simp (← (c .before .before .before .before .before .before .before .before .before .before .stands .ensures), c .before .before .before .before .before .before .before .before .before .if1 .left, ← (c .before .before .before .before .before .before .before .before .stands2 .ensures), c .before .before .before .before .before .before .before .if2 .left, ← (c .before .before .before .before .before .before .stands3 .ensures), c .before .before .before .before .before .if3 .left, ← (c .before .before .before .before .stands4 .ensures), c .before .before .before .if4 .left, ← (c .before .before .stands5 .ensures), c .before .if5 .taken, c .alone2 .ensures)
+returns-5 c = simp (← (c .before .before .before .before .before .before .before .before .before .before .stands .ensures), c .before .before .before .before .before .before .before .before .before .if1 .left, ← (c .before .before .before .before .before .before .before .before .stands2 .ensures), c .before .before .before .before .before .before .before .if2 .left, ← (c .before .before .before .before .before .before .stands3 .ensures), c .before .before .before .before .before .if3 .left, ← (c .before .before .before .before .stands4 .ensures), c .before .before .before .if4 .left, ← (c .before .before .stands5 .ensures), c .before .if5 .taken, c .limits-line .ensures)
 
 stands-requires-6 : tie.Need-stands-requires-6
 stands-requires-6 c κs = search needs
 
-alone-requires-3 : tie.Need-alone-requires-3
-alone-requires-3 c κs = search needs
+alone-requires : tie.Need-alone-requires
+alone-requires c κs = search needs
 
 returns-6 : tie.Need-returns-6
 unfolding lineOf
-returns-6 c = simp (← (c .before .before .before .before .before .before .before .before .before .before .before .before .stands .ensures), c .before .before .before .before .before .before .before .before .before .before .before .if1 .left, ← (c .before .before .before .before .before .before .before .before .before .before .stands2 .ensures), c .before .before .before .before .before .before .before .before .before .if2 .left, ← (c .before .before .before .before .before .before .before .before .stands3 .ensures), c .before .before .before .before .before .before .before .if3 .left, ← (c .before .before .before .before .before .before .stands4 .ensures), c .before .before .before .before .before .if4 .left, ← (c .before .before .before .before .stands5 .ensures), c .before .before .before .if5 .left, ← (c .before .before .stands6 .ensures), c .before .if6 .taken, c .alone3 .ensures)
+returns-6 c = simp (← (c .before .before .before .before .before .before .before .before .before .before .before .before .stands .ensures), c .before .before .before .before .before .before .before .before .before .before .before .if1 .left, ← (c .before .before .before .before .before .before .before .before .before .before .stands2 .ensures), c .before .before .before .before .before .before .before .before .before .if2 .left, ← (c .before .before .before .before .before .before .before .before .stands3 .ensures), c .before .before .before .before .before .before .before .if3 .left, ← (c .before .before .before .before .before .before .stands4 .ensures), c .before .before .before .before .before .if4 .left, ← (c .before .before .before .before .stands5 .ensures), c .before .before .before .if5 .left, ← (c .before .before .stands6 .ensures), c .before .if6 .taken, c .alone .ensures)
+
+stands-requires-7 : tie.Need-stands-requires-7
+stands-requires-7 c κs = search needs
+
+alone-requires-2 : tie.Need-alone-requires-2
+alone-requires-2 c κs = search needs
 
 returns-7 : tie.Need-returns-7
 unfolding lineOf
-returns-7 c = simp (← (c .before .before .before .before .before .before .before .before .before .before .before .stands .ensures), c .before .before .before .before .before .before .before .before .before .before .if1 .left, ← (c .before .before .before .before .before .before .before .before .before .stands2 .ensures), c .before .before .before .before .before .before .before .before .if2 .left, ← (c .before .before .before .before .before .before .before .stands3 .ensures), c .before .before .before .before .before .before .if3 .left, ← (c .before .before .before .before .before .stands4 .ensures), c .before .before .before .before .if4 .left, ← (c .before .before .before .stands5 .ensures), c .before .before .if5 .left, ← (c .before .stands6 .ensures), c .if6 .left)
+returns-7 c = simp (← (c .before .before .before .before .before .before .before .before .before .before .before .before .before .before .stands .ensures), c .before .before .before .before .before .before .before .before .before .before .before .before .before .if1 .left, ← (c .before .before .before .before .before .before .before .before .before .before .before .before .stands2 .ensures), c .before .before .before .before .before .before .before .before .before .before .before .if2 .left, ← (c .before .before .before .before .before .before .before .before .before .before .stands3 .ensures), c .before .before .before .before .before .before .before .before .before .if3 .left, ← (c .before .before .before .before .before .before .before .before .stands4 .ensures), c .before .before .before .before .before .before .before .if4 .left, ← (c .before .before .before .before .before .before .stands5 .ensures), c .before .before .before .before .before .if5 .left, ← (c .before .before .before .before .stands6 .ensures), c .before .before .before .if6 .left, ← (c .before .before .stands7 .ensures), c .before .if7 .taken, c .alone2 .ensures)
+
+stands-requires-8 : tie.Need-stands-requires-8
+stands-requires-8 c κs = search needs
+
+alone-requires-3 : tie.Need-alone-requires-3
+alone-requires-3 c κs = search needs
+
+returns-8 : tie.Need-returns-8
+unfolding lineOf
+returns-8 c = simp (← (c .before .before .before .before .before .before .before .before .before .before .before .before .before .before .before .before .stands .ensures), c .before .before .before .before .before .before .before .before .before .before .before .before .before .before .before .if1 .left, ← (c .before .before .before .before .before .before .before .before .before .before .before .before .before .before .stands2 .ensures), c .before .before .before .before .before .before .before .before .before .before .before .before .before .if2 .left, ← (c .before .before .before .before .before .before .before .before .before .before .before .before .stands3 .ensures), c .before .before .before .before .before .before .before .before .before .before .before .if3 .left, ← (c .before .before .before .before .before .before .before .before .before .before .stands4 .ensures), c .before .before .before .before .before .before .before .before .before .if4 .left, ← (c .before .before .before .before .before .before .before .before .stands5 .ensures), c .before .before .before .before .before .before .before .if5 .left, ← (c .before .before .before .before .before .before .stands6 .ensures), c .before .before .before .before .before .if6 .left, ← (c .before .before .before .before .stands7 .ensures), c .before .before .before .if7 .left, ← (c .before .before .stands8 .ensures), c .before .if8 .taken, c .alone3 .ensures)
+
+returns-9 : tie.Need-returns-9
+unfolding lineOf
+returns-9 c = simp (← (c .before .before .before .before .before .before .before .before .before .before .before .before .before .before .before .stands .ensures), c .before .before .before .before .before .before .before .before .before .before .before .before .before .before .if1 .left, ← (c .before .before .before .before .before .before .before .before .before .before .before .before .before .stands2 .ensures), c .before .before .before .before .before .before .before .before .before .before .before .before .if2 .left, ← (c .before .before .before .before .before .before .before .before .before .before .before .stands3 .ensures), c .before .before .before .before .before .before .before .before .before .before .if3 .left, ← (c .before .before .before .before .before .before .before .before .before .stands4 .ensures), c .before .before .before .before .before .before .before .before .if4 .left, ← (c .before .before .before .before .before .before .before .stands5 .ensures), c .before .before .before .before .before .before .if5 .left, ← (c .before .before .before .before .before .stands6 .ensures), c .before .before .before .before .if6 .left, ← (c .before .before .before .stands7 .ensures), c .before .before .if7 .left, ← (c .before .stands8 .ensures), c .if8 .left)
 
 pub line-of-spec : {M : Type 1} → statement M
 line-of-spec =
@@ -79,15 +99,21 @@ line-of-spec =
     letter-line-requires
     returns-2
     stands-requires-3
-    limits-line-requires
+    in-line-requires
     returns-3
     stands-requires-4
-    alone-requires
+    out-line-requires
     returns-4
     stands-requires-5
-    alone-requires-2
+    limits-line-requires
     returns-5
     stands-requires-6
-    alone-requires-3
+    alone-requires
     returns-6
-    returns-7)
+    stands-requires-7
+    alone-requires-2
+    returns-7
+    stands-requires-8
+    alone-requires-3
+    returns-8
+    returns-9)

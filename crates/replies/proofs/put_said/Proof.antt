@@ -15,11 +15,11 @@ put-line-requires c κs = search needs
 enum-known-said-2 : tie.Need-enum-known-said-2
 enum-known-said-2 c = search needs
 
-cast-t21 : tie.Need-cast-t21
-cast-t21 c = search needs
+cast-t29 : tie.Need-cast-t29
+cast-t29 c = search needs
 
-cast-t22 : tie.Need-cast-t22
-cast-t22 c = search needs
+cast-t30 : tie.Need-cast-t30
+cast-t30 c = search needs
 
 slice-aggregate-put-line-2 : tie.Need-slice-aggregate-put-line-2
 slice-aggregate-put-line-2 c = search needs
@@ -30,14 +30,26 @@ put-line-requires-2 c κs = search needs
 enum-known-said-3 : tie.Need-enum-known-said-3
 enum-known-said-3 c = search needs
 
+put-shift-requires : tie.Need-put-shift-requires
+put-shift-requires c κs = search needs
+
+enum-known-said-4 : tie.Need-enum-known-said-4
+enum-known-said-4 c = search needs
+
+put-shift-requires-2 : tie.Need-put-shift-requires-2
+put-shift-requires-2 c κs = search needs
+
+enum-known-said-5 : tie.Need-enum-known-said-5
+enum-known-said-5 c = search needs
+
 slice-aggregate-put-line-3 : tie.Need-slice-aggregate-put-line-3
 slice-aggregate-put-line-3 c = search needs
 
 put-line-requires-3 : tie.Need-put-line-requires-3
 put-line-requires-3 c κs = search needs
 
-enum-known-said-4 : tie.Need-enum-known-said-4
-enum-known-said-4 c = search needs
+enum-known-said-6 : tie.Need-enum-known-said-6
+enum-known-said-6 c = search needs
 
 slice-aggregate-put-line-4 : tie.Need-slice-aggregate-put-line-4
 slice-aggregate-put-line-4 c = search needs
@@ -61,13 +73,25 @@ same-length-3 : tie.Need-same-length-3
 same-length-3 c = search needs
 
 returns-3 : tie.Need-returns-3
-returns-3 c = rw (c .before .before .before .before .before .before .said3 .given .1) (c .before .before .put-line3 .ensures)
+returns-3 c = rw (c .before .before .before .before .before .said3 .given .1) (c .before .before .put-shift .ensures)
 
 same-length-4 : tie.Need-same-length-4
 same-length-4 c = search needs
 
 returns-4 : tie.Need-returns-4
-returns-4 c = rw (c .before .before .before .before .before .before .said4 .given .1) (c .before .before .put-line4 .ensures)
+returns-4 c = rw (c .before .before .before .before .before .said4 .given .1) (c .before .before .put-shift2 .ensures)
+
+same-length-5 : tie.Need-same-length-5
+same-length-5 c = search needs
+
+returns-5 : tie.Need-returns-5
+returns-5 c = rw (c .before .before .before .before .before .before .said5 .given .1) (c .before .before .put-line3 .ensures)
+
+same-length-6 : tie.Need-same-length-6
+same-length-6 c = search needs
+
+returns-6 : tie.Need-returns-6
+returns-6 c = rw (c .before .before .before .before .before .before .said6 .given .1) (c .before .before .put-line4 .ensures)
 
 pub put-said-spec : {M : Type 1} → statement M
 put-said-spec =
@@ -77,14 +101,18 @@ put-said-spec =
     slice-aggregate-put-line
     put-line-requires
     enum-known-said-2
-    cast-t21
-    cast-t22
+    cast-t29
+    cast-t30
     slice-aggregate-put-line-2
     put-line-requires-2
     enum-known-said-3
+    put-shift-requires
+    enum-known-said-4
+    put-shift-requires-2
+    enum-known-said-5
     slice-aggregate-put-line-3
     put-line-requires-3
-    enum-known-said-4
+    enum-known-said-6
     slice-aggregate-put-line-4
     put-line-requires-4
     same-length
@@ -94,4 +122,8 @@ put-said-spec =
     same-length-3
     returns-3
     same-length-4
-    returns-4)
+    returns-4
+    same-length-5
+    returns-5
+    same-length-6
+    returns-6)

@@ -27,14 +27,8 @@ open-requires c κs = search needs
 enum-known-asked-2 : tie.Need-enum-known-asked-2
 enum-known-asked-2 c = search needs
 
-letter-requires : tie.Need-letter-requires
-letter-requires c κs = search needs
-
-enum-known-asked-3 : tie.Need-enum-known-asked-3
-enum-known-asked-3 c = search needs
-
-limits-requires : tie.Need-limits-requires
-limits-requires c κs = search needs
+change-requires : tie.Need-change-requires
+change-requires c κs = search needs
 
 enum-told : tie.Need-enum-told
 enum-told c = search needs
@@ -70,25 +64,22 @@ same-length-2 : tie.Need-same-length-2
 same-length-2 c = search needs
 
 returns-2 : tie.Need-returns-2
-returns-2 c = replied _ _ _ (c .before .before .before .before .before .before .before .parse .ensures) _ (c .before .before .before .before .before .asked2 .given .1) _ (refl, (refl, refl)) (c .before .before .letter .ensures)
+returns-2 c = replied _ _ _ (c .before .before .before .before .before .before .before .parse .ensures) _ (c .before .before .before .before .before .asked2 .given .1) _ (refl, (refl, refl)) (c .before .before .change .ensures)
 
 same-length-3 : tie.Need-same-length-3
 same-length-3 c = search needs
 
 returns-3 : tie.Need-returns-3
-returns-3 c = replied _ _ _ (c .before .before .before .before .before .before .before .parse .ensures) _ (c .before .before .before .before .before .asked3 .given .1) _ (refl, (refl, refl)) (c .before .before .limits .ensures)
+returns-3 c = replied _ _ _ (c .before .before .before .before .before .before .parse .ensures) _ (c .before .before .before .before .enum-told .given .1) _ (refl, (refl, refl)) (c .before .before .take-back .ensures)
 
 same-length-4 : tie.Need-same-length-4
 same-length-4 c = search needs
 
 returns-4 : tie.Need-returns-4
-returns-4 c = replied _ _ _ (c .before .before .before .before .before .before .parse .ensures) _ (c .before .before .before .before .enum-told .given .1) _ (refl, (refl, refl)) (c .before .before .take-back .ensures)
+returns-4 c = replied _ _ _ (c .before .before .before .before .before .before .parse .ensures) _ (c .before .before .before .before .enum-told2 .given .1) _ (refl, (refl, refl)) (c .before .before .put-again .ensures)
 
 same-length-5 : tie.Need-same-length-5
 same-length-5 c = search needs
-
-returns-5 : tie.Need-returns-5
-returns-5 c = replied _ _ _ (c .before .before .before .before .before .before .parse .ensures) _ (c .before .before .before .before .enum-told2 .given .1) _ (refl, (refl, refl)) (c .before .before .put-again .ensures)
 
 same-length-6 : tie.Need-same-length-6
 same-length-6 c = search needs
@@ -96,17 +87,14 @@ same-length-6 c = search needs
 same-length-7 : tie.Need-same-length-7
 same-length-7 c = search needs
 
+returns-5 : tie.Need-returns-5
+returns-5 c = question-replied _ _ _ (c .before .before .before .before .before .before .before .before .before .before .before .before .parse .ensures) (c .before .before .before .before .before .before .before .before .before .before .enum-told3 .given .1) (c .before .before .before .before .before .before .question .ensures)
+
 same-length-8 : tie.Need-same-length-8
 same-length-8 c = search needs
 
 returns-6 : tie.Need-returns-6
-returns-6 c = question-replied _ _ _ (c .before .before .before .before .before .before .before .before .before .before .before .before .parse .ensures) (c .before .before .before .before .before .before .before .before .before .before .enum-told3 .given .1) (c .before .before .before .before .before .before .question .ensures)
-
-same-length-9 : tie.Need-same-length-9
-same-length-9 c = search needs
-
-returns-7 : tie.Need-returns-7
-returns-7 c = replied _ _ _ (c .before .before .before .before .before .before .parse .ensures) _ (c .before .before .before .before .enum-told4 .given .1) _ (refl, (refl, refl)) (c .before .before .refused .ensures)
+returns-6 c = replied _ _ _ (c .before .before .before .before .before .before .parse .ensures) _ (c .before .before .before .before .enum-told4 .given .1) _ (refl, (refl, refl)) (c .before .before .refused .ensures)
 
 pub answer-spec : {M : Type 1} → statement M
 answer-spec =
@@ -119,9 +107,7 @@ answer-spec =
     part-open-end
     open-requires
     enum-known-asked-2
-    letter-requires
-    enum-known-asked-3
-    limits-requires
+    change-requires
     enum-told
     take-back-requires
     enum-told-2
@@ -139,10 +125,8 @@ answer-spec =
     same-length-4
     returns-4
     same-length-5
-    returns-5
     same-length-6
     same-length-7
+    returns-5
     same-length-8
-    returns-6
-    same-length-9
-    returns-7)
+    returns-6)

@@ -1,15 +1,16 @@
 -- `Sheet::take_back` meets its contract: 24, 8, or the newest change taken back. Assumes nothing.
 use Prim.Native.Nat.{_+_, _-_}
+use Rattle.changes.specs.Work.{fits}
+use Rattle.changes.specs.declared.Edit.{Edit}
+use Rattle.kept.proofs.Popping.{popped-is}
+use Rattle.kept.specs.Work.{poppedNumber}
+use Rattle.sheet.proofs.Replying.{call-refused, call-accepted, applied-accepted, newest-fits, back-24, back-number, back-is}
+use Rattle.sheet.proofs.Within.{bounds}
+use Rattle.sheet.specs.Calls.{applied, newestOf}
 use borrow.Author.Needs.{needs}
 use borrow.Author.Tests.{not-true, not-false}
 use mathlib.Core.Path.{sym, ap, _∙_}
 use native.Mathlib.Omega.{arith}
-use Rattle.changes.specs.Changes.{accepts}
-use Rattle.changes.specs.declared.Edit.{Edit}
-use Rattle.sheet.proofs.Replying.{call-refused, call-accepted, applied-accepted, popped-is, newest-back, back-24, back-number, back-is}
-use Rattle.sheet.proofs.Within.{bounds}
-use Rattle.sheet.specs.Calls.{applied, newestOf}
-use Rattle.sheet.specs.Work.{poppedNumber}
 use Rattle.sheet.proofs.Sheet.take_back.Statement.{statement}
 use Rattle.sheet.proofs.Sheet.take_back.Tie as tie
 
@@ -23,7 +24,7 @@ returns : tie.Need-returns
 returns c = call-refused _ _ _ 24 (back-24 _ (sym (c .before .before .in-bounds .ensures) ∙ not-true _ (c .before .if1 .taken))) (λ e. omega arith) _ (c .refused .ensures)
 
 newest-requires : tie.Need-newest-requires
-newest-requires c κs = omega (arith, bounds _ (sym (c .before .in-bounds .ensures) ∙ not-false _ (c .if1 .left)) .few)
+newest-requires c κs = omega (arith, bounds _ (sym (c .before .before .in-bounds .ensures) ∙ not-false _ (c .before .if1 .left)) .few)
 
 enum-known-c : tie.Need-enum-known-c
 enum-known-c c = search needs
@@ -35,22 +36,22 @@ refused-requires-2 : tie.Need-refused-requires-2
 refused-requires-2 c κs = search needs
 
 returns-2 : tie.Need-returns-2
-returns-2 c = call-refused _ _ _ 8 (back-number _ (sym (c .before .before .before .before .before .in-bounds .ensures) ∙ not-false _ (c .before .before .before .before .if1 .left)) 8 (ap (poppedNumber 8) (sym (c .before .enum-told .given .1)) ∙ c .before .before .before .newest .ensures .1)) (λ e. omega arith) _ (c .refused2 .ensures)
+returns-2 c = call-refused _ _ _ 8 (back-number _ (sym (c .before .before .before .before .before .before .in-bounds .ensures) ∙ not-false _ (c .before .before .before .before .before .if1 .left)) 8 (ap (poppedNumber 8) (sym (c .before .enum-told .given .1)) ∙ c .before .before .before .newest .ensures .1)) (λ e. omega arith) _ (c .refused2 .ensures)
 
 back-requires : tie.Need-back-requires
 back-requires c κs = search needs
 
 sub-apply : tie.Need-sub-apply
-sub-apply c = let s = c .before .before .before .before .before .before .before .before .args .self in let z = popped-is (s .standing) (newestOf s) _ (sym (c .before .before .before .before .before .newest .ensures .0) ∙ c .before .before .before .c .given .1) .1 in omega arith
+sub-apply c = let s = c .before .before .before .before .before .before .before .before .before .args .self in let z = popped-is (s .standing) (newestOf s) _ (sym (c .before .before .before .before .before .newest .ensures .0) ∙ c .before .before .before .c .given .1) .1 in omega arith
 
 add-apply : tie.Need-add-apply
-add-apply c = omega (arith, bounds _ (sym (c .before .before .before .before .before .before .before .before .in-bounds .ensures) ∙ not-false _ (c .before .before .before .before .before .before .before .if1 .left)) .few)
+add-apply c = omega (arith, bounds _ (sym (c .before .before .before .before .before .before .before .before .before .in-bounds .ensures) ∙ not-false _ (c .before .before .before .before .before .before .before .before .if1 .left)) .few)
 
 apply-requires : tie.Need-apply-requires
-apply-requires c κs = let w = sym (c .before .before .before .before .before .before .before .before .in-bounds .ensures) ∙ not-false _ (c .before .before .before .before .before .before .before .if1 .left) in (bounds _ w .letters, ap (accepts _ _) (c .before .before .back .ensures) ∙ newest-back _ _ w (sym (c .before .before .before .before .before .before .newest .ensures .0) ∙ c .before .before .before .before .c .given .1))
+apply-requires c κs = let w = sym (c .before .before .before .before .before .before .before .before .before .in-bounds .ensures) ∙ not-false _ (c .before .before .before .before .before .before .before .before .if1 .left) in (bounds _ w .letters, ap (fits _) (c .before .before .back .ensures) ∙ newest-fits _ _ w (sym (c .before .before .before .before .before .before .newest .ensures .0) ∙ c .before .before .before .before .c .given .1))
 
 returns-3 : tie.Need-returns-3
-returns-3 c = let s = c .before .before .before .before .before .before .before .before .before .before .args .self in let w = sym (c .before .before .before .before .before .before .before .before .before .in-bounds .ensures) ∙ not-false _ (c .before .before .before .before .before .before .before .before .if1 .left) in let o = c .before .before .before .before .before .before .before .newest .ensures in let q = c .before .before .before .before .before .c .given .1 in call-accepted _ _ _ (back-number s w 0 (ap (poppedNumber 8) (sym q) ∙ o .1)) _ (c .apply .ensures ∙ ap (λ (e : Edit). applied s e (s .standing - 1) (s .taken + 1)) (c .before .before .before .back .ensures ∙ back-is s _ (sym (o .0) ∙ q))) (applied-accepted _ _ _ _)
+returns-3 c = let s = c .before .before .before .before .before .before .before .before .before .before .before .args .self in let w = sym (c .before .before .before .before .before .before .before .before .before .before .in-bounds .ensures) ∙ not-false _ (c .before .before .before .before .before .before .before .before .before .if1 .left) in let o = c .before .before .before .before .before .before .before .newest .ensures in let q = c .before .before .before .before .before .c .given .1 in call-accepted _ _ _ (back-number s w 0 (ap (poppedNumber 8) (sym q) ∙ o .1)) _ (c .apply .ensures ∙ ap (λ (e : Edit). applied s e (s .standing - 1) (s .taken + 1)) (c .before .before .before .back .ensures ∙ back-is s _ (sym (o .0) ∙ q))) (applied-accepted _ _ _ _)
 
 pub take-back-spec : {M : Type 1} → statement M
 take-back-spec =

@@ -1,0 +1,4 @@
+-- Laws that belong to no one function.
+pub mod Walking
+pub mod Popping
+pub mod Moving

@@ -1,0 +1,3 @@
+-- The kept changes of a sheet.
+pub mod Lists
+pub mod Work

@@ -1,0 +1,3 @@
+-- Letters in their places after an edit.
+pub mod Shifts
+pub mod Work
