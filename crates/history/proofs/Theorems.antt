@@ -1,7 +1,7 @@
 -- Demand 3: no run of calls can make a sheet lie. Assumes nothing.
 use mathlib.Core.Path.{_≡_, refl, sym, ap, _∙_}
 use mathlib.Core.Bool.{Bool, true, false, cond}
-use mathlib.Core.List.{List, [], _∷_}
+use mathlib.Core.List.{List, [], _∷_, _++_}
 use Prim.Native.Nat.{ℕ, zero, suc, _+_, _≤_}
 use native.Mathlib.Omega.{arith}
 use lib.Dec.{eqb}
@@ -14,7 +14,7 @@ use Rattle.changes.specs.declared.Change.{Change}
 use Rattle.changes.specs.declared.Edit.{Edit}
 use Rattle.changes.specs.declared.Edit.the-variants.{Letter as EditLetter, Limits as EditLimits, PutIn as EditPutIn, TakeOut as EditTakeOut}
 use Rattle.kept.specs.Lists.{keptAt}
-use Rattle.sheet.specs.Calls.{numberOf, refusing, answered, applied, takeBackCall, putAgainCall, opened, blankSheet}
+use Rattle.sheet.specs.Calls.{numberOf, refusing, answered, applied, takeBackCall, putAgainCall, opened, blankSheet, openCall}
 use Rattle.sheet.specs.declared.Reply.{Reply}
 use Rattle.sheet.specs.declared.Said.{Said}
 use Rattle.sheet.specs.declared.Said.the-variants.{Opened}
@@ -23,7 +23,7 @@ use Rattle.sheet.proofs.Within.{bounds}
 use Rattle.sheet.proofs.Replying.{answer-no, applied-accepted, changed-accepted}
 use Rattle.history.specs.History.{Content, History, Request, letter, letterIn, letterOut, limits, takeBack, putAgain, made, start, accept, decide, reckon}
 use Rattle.history.specs.Runs.{contentOf, standingOf, takenOf, perform, Exchange, requested, asked, Run, after, Faithful}
-use Rattle.history.specs.Demand3.{Came, Demand3, AlphabetStays, RefusedStays, BackAndAgain, ChangeAndBack}
+use Rattle.history.specs.Demand3.{Came, Demand3, NeverMore, AlphabetStays, RefusedStays, BackAndAgain, ChangeAndBack}
 use Rattle.history.specs.Openings.{BlankToo, OpensAnew}
 use Rattle.history.proofs.Lists.{standing-length}
 use Rattle.history.proofs.Padding.{content-is}
@@ -67,6 +67,18 @@ demand-3 x l xs s c =
       E .faithful,
       rw (E .history) (record { content = content-is (S .holds); standing = refl; taken = refl; short = omega arith; few = omega arith; bounds = S .bounds }),
     )
+
+-- a run can be cut anywhere
+cut : (s : Sheet) (xs ys : List Exchange) (s′ : Sheet) → Run s (xs ++ ys) s′ → (t : Sheet) × Run s xs t × Run t ys s′
+cut s [] ys s′ r = (s, refl, r)
+cut s (requested q w ∷ xs) ys s′ r = let c = cut (perform s q .sheet) xs ys s′ (r .1) in (c .0, (r .0, c .1), c .2)
+cut s (asked t room t′ room′ a ∷ xs) ys s′ r = let c = cut s xs ys s′ (r .1) in (c .0, (r .0, c .1), c .2)
+
+pub never-more : NeverMore
+never-more x l xs ys s c =
+    let k = cut (openCall x l .sheet) xs ys s (c .run) in
+    let d : Came x l xs (k .0) = record { accepted = c .accepted; run = k .1 } in
+    (k .0, d, k .2, bounds (k .0) (came-ends x l xs (k .0) d .invariant .bounds) .letters)
 
 -- no change touches map or alphabet
 made-keeps : (o : Content) (es : List Edit) → (made o es .text .map ≡ o .text .map) × (made o es .text .alphabet ≡ o .text .alphabet)

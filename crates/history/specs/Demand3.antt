@@ -2,7 +2,7 @@
 -- answers as a sheet freshly opened with them would; every accepted change, take-back and put-again says back what it did and the number standing.
 use mathlib.Core.Path.{_≡_}
 use mathlib.Core.Bool.{true}
-use mathlib.Core.List.{List}
+use mathlib.Core.List.{List, _++_}
 use Prim.Native.Nat.{_≤_}
 use lib.ListN.{length}
 use Rattle.terms.specs.Sizes.{mostLetters, mostChanges}
@@ -21,7 +21,7 @@ pub record Stands (h : History) (s : Sheet) : Type 0 where
   -- the sheet's two lists are the history's
   pub standing : standingOf s ≡ h .standing
   pub taken : takenOf s ≡ h .taken
-  -- there are at most 1,000 letters; every beginning of a run is a run, so at no moment are there more (02, L5)
+  -- there are at most 1,000 letters
   pub short : size (current h .text) ≤ mostLetters
   -- at most 64 changes stand, and no call will refuse the sheet with 24
   pub few : length (h .standing) ≤ mostChanges
@@ -37,6 +37,12 @@ abbrev pub Demand3 : Type 0
 Demand3 =
     (x : Text) (l : Limits) (calls : List Exchange) (s : Sheet)
     → Came x l calls s → Faithful (start x l) calls × Stands (after (start x l) calls) s
+
+-- At no moment of a run are there more than 1,000 letters (02, L5): cut where you will, it is a run to a sheet with no more, and from there a run on.
+abbrev pub NeverMore : Type 0
+NeverMore =
+    (x : Text) (l : Limits) (calls later : List Exchange) (s : Sheet)
+    → Came x l (calls ++ later) s → (t : Sheet) × Came x l calls t × Run t later s × (t .n ≤ mostLetters)
 
 -- Map and alphabet are the opening's after any run of calls (02, L2).
 abbrev pub AlphabetStays : Type 0
