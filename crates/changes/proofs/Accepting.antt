@@ -13,7 +13,7 @@ use Rattle.terms.specs.declared.limits.Limits.{Limits as Limits·}
 use Rattle.terms.proofs.Below.{and-left, and-right, and-yes}
 use Rattle.terms.proofs.Passed.{passed, not-off}
 use Rattle.terms.proofs.Refusals.{Numbered, limits-numbered}
-use Rattle.changes.specs.Changes.{doneOf, backOf, lengthBy, letterFault, editFaults, accepts, acceptsThen}
+use Rattle.changes.specs.Changes.{doneOf, backOf, lengthBy, placeFault, letterFault, editFaults, accepts, acceptsThen}
 use Rattle.changes.specs.Work.{fits}
 use Rattle.changes.specs.declared.Change.{Change}
 use Rattle.changes.specs.declared.Change.the-variants.{Letter as ChangedLetter, Limits as ChangedLimits, PutIn as DidPutIn, TakeOut as DidTakeOut}
@@ -31,8 +31,12 @@ module _ (n : ℕ) (z : List ℕ) (e : Edit) where
   none-accepts f = eq-eqb _ _ f
 
 -- every number of its list is a refusal's
+pub place-numbered : (n p : ℕ) → Numbered (placeFault n p)
+unfolding placeFault
+place-numbered n p = (omega arith, tt)
+
 pub edit-numbered : (n : ℕ) (z : List ℕ) (e : Edit) → Numbered (editFaults n z e)
-unfolding editFaults letterFault
+unfolding editFaults placeFault letterFault
 edit-numbered n z (Letter p b) = (omega arith, (omega arith, tt))
 edit-numbered n z (Limits l) = limits-numbered l
 edit-numbered n z (PutIn p b) = (omega arith, (omega arith, (omega arith, tt)))
@@ -46,7 +50,7 @@ module _ (n : ℕ) (z : List ℕ) (p : ℕ) where
     of-alphabet f = not-off _ (passed 19 (not (isIn z b)) [] (omega arith) f .0)
 
     letter-passed : accepts n z (Letter p b) ≡ true → (leb n p ≡ false) × (firstFault (letterFault z b) ≡ 0)
-    unfolding editFaults
+    unfolding editFaults placeFault
     letter-passed a = passed 6 (leb n p) (letterFault z b) (omega arith) (accepts-none n z (Letter p b) a)
 
     pub letter-in : accepts n z (Letter p b) ≡ true → isIn z b ≡ true
@@ -63,7 +67,7 @@ module _ (n : ℕ) (z : List ℕ) (p : ℕ) where
     put-in-letter a = put-in-passed a .2
 
     pub letter-accepted : p < n → isIn z b ≡ true → accepts n z (Letter p b) ≡ true
-    unfolding editFaults letterFault firstFault
+    unfolding editFaults placeFault letterFault firstFault
     letter-accepted h i = none-accepts n z (Letter p b) (simp (lt-leb _ _ h, i))
 
     pub put-in-accepted : p ≤ n → n < 1000 → isIn z b ≡ true → accepts n z (PutIn p b) ≡ true
@@ -71,11 +75,11 @@ module _ (n : ℕ) (z : List ℕ) (p : ℕ) where
     put-in-accepted h k i = none-accepts n z (PutIn p b) (simp (le-ltb _ _ h, lt-leb _ _ k, i))
 
   take-out-passed : accepts n z (TakeOut p) ≡ true → p < n
-  unfolding editFaults
+  unfolding editFaults placeFault
   take-out-passed a = leb-false _ _ (passed 6 (leb n p) [] (omega arith) (accepts-none n z (TakeOut p) a) .0)
 
   pub take-out-accepted : p < n → accepts n z (TakeOut p) ≡ true
-  unfolding editFaults firstFault
+  unfolding editFaults placeFault firstFault
   take-out-accepted h = none-accepts n z (TakeOut p) (simp (lt-leb _ _ h))
 
 pub limits-accepted : (n : ℕ) (z : List ℕ) (l : Limits·) → firstFault (limitsFaults l) ≡ 0 → accepts n z (Limits l) ≡ true

@@ -1,6 +1,6 @@
 -- Changes and edits (01, "The sheet"; 02, L5). A change keeps what it replaced; an edit is what is done to letters or limits, forward or back.
 use mathlib.Core.Bool.{Bool, not, _&&_}
-use mathlib.Core.List.{List, [], _∷_}
+use mathlib.Core.List.{List, [], _∷_, _++_}
 use Prim.Native.Nat.{ℕ, _+_, _-_}
 use lib.Dec.{eqb, leb, ltb}
 use Rattle.terms.specs.Sizes.{mostLetters}
@@ -40,16 +40,20 @@ limitsBy (Limits l′) l = l′
 limitsBy (PutIn p b) l = l
 limitsBy (TakeOut p) l = l
 
+-- 6 for a place where a letter must stand: it is not one of n letters.
+unfoldable pub placeFault : ℕ → ℕ → List (ℕ × Bool)
+placeFault n p = (6, leb n p) ∷ []
+
 -- 19 for one letter: it is not of the alphabet z.
 unfoldable pub letterFault : List ℕ → ℕ → List (ℕ × Bool)
 letterFault z b = (19, not (isIn z b)) ∷ []
 
 -- What its call refuses of the edit, on n letters of the alphabet z, in testing order. Letter: 6, 19. Limits: 4, 5. Put in before place p, up to n: 6, 1, 19. Take out: 6.
 unfoldable pub editFaults : ℕ → List ℕ → Edit → List (ℕ × Bool)
-editFaults n z (Letter p b) = (6, leb n p) ∷ letterFault z b
+editFaults n z (Letter p b) = placeFault n p ++ letterFault z b
 editFaults n z (Limits l) = limitsFaults l
 editFaults n z (PutIn p b) = (6, ltb n p) ∷ (1, leb mostLetters n) ∷ letterFault z b
-editFaults n z (TakeOut p) = (6, leb n p) ∷ []
+editFaults n z (TakeOut p) = placeFault n p
 
 -- Its call would refuse nothing of it.
 unfoldable pub accepts : ℕ → List ℕ → Edit → Bool

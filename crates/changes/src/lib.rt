@@ -5,7 +5,7 @@ use terms::limits::Limits;
 ghost use mathlib.Core.Path.{_≡_};
 ghost use mathlib.Core.Bool.{true};
 ghost use Rattle.terms.specs.Refusals.{firstFault};
-ghost use Rattle.changes.specs.Changes.{doneOf, backOf, lengthBy, limitsBy, letterFault, editFaults, accepts, acceptsThen};
+ghost use Rattle.changes.specs.Changes.{doneOf, backOf, lengthBy, limitsBy, placeFault, letterFault, editFaults, accepts, acceptsThen};
 ghost use Rattle.changes.specs.Work.{fits};
 
 // A change, with what it replaced.
@@ -22,6 +22,16 @@ pub enum Edit {
     Limits { limits: Limits },
     PutIn { place: usize, byte: u8 },
     TakeOut { place: usize },
+}
+
+// What refusal 6 says of a place where a letter must stand: 6, or 0 where it is one of n letters.
+fn place_refusal(place: usize, n: usize) -> usize
+    ensures { λ r. ⌜ r ≡ firstFault (placeFault n place) ⌝ }
+{
+    if place < n {
+        return 0;
+    }
+    6
 }
 
 // What refusal 19 says of one letter: 19, or 0 where the byte is of the alphabet.
@@ -41,8 +51,9 @@ impl Edit {
     {
         match self {
             Edit::Letter { place, byte } => {
-                if n <= place {
-                    return 6;
+                let number = place_refusal(place, n);
+                if number != 0 {
+                    return number;
                 }
                 letter_refusal(byte, alphabet)
             }
@@ -56,12 +67,7 @@ impl Edit {
                 }
                 letter_refusal(byte, alphabet)
             }
-            Edit::TakeOut { place } => {
-                if place < n {
-                    return 0;
-                }
-                6
-            }
+            Edit::TakeOut { place } => place_refusal(place, n),
         }
     }
 

@@ -5,7 +5,7 @@ use Rattle.terms.specs.Maps.{everyBelow, ownInverse, mapFaults, plainMap}
 use Rattle.terms.specs.Alphabets.{allBytes, closedUnder, spelt, alphabetFaults}
 use Rattle.terms.specs.Limits.{wrongKind, tooManyErrors, outOfRange, limitsFaults}
 use Rattle.terms.specs.Texts.{stringFaults, textFaults, openingFaults}
-use Rattle.changes.specs.Changes.{letterFault, editFaults}
+use Rattle.changes.specs.Changes.{placeFault, letterFault, editFaults}
 use Rattle.sheet.specs.Calls.{numberOf, answered}
 use Rattle.history.specs.Example.{exampleText, exampleLimits, exampleCalls, ExampleOpens, ExampleRuns}
 use Rattle.history.proofs.Theorems.{demand-3}
@@ -15,7 +15,7 @@ unfolding answered openingFaults textFaults stringFaults alphabetFaults allBytes
 example-opens = refl
 
 pub example-runs : ExampleRuns
-unfolding firstFault allBytes editFaults letterFault
+unfolding firstFault allBytes editFaults placeFault letterFault
 example-runs a b c d e f s r =
     let F = demand-3 exampleText exampleLimits (exampleCalls a b c d e f) s (record { accepted = ap numberOf example-opens; run = r }) .0 in
     (F .0, F .1 .0, F .1 .1 .0, F .1 .1 .1 .0, F .1 .1 .1 .1 .0, F .1 .1 .1 .1 .1 .0)

@@ -20,7 +20,7 @@ use Rattle.tilings.specs.Tilings.{Part, Given}
 use Rattle.boards.specs.Pieces.{board}
 use Rattle.questions.specs.Tiling.{figures}
 use Rattle.questions.specs.declared.Answer.{Answer}
-use Rattle.changes.specs.Changes.{doneOf, backOf, lengthBy, letterFault, editFaults, accepts}
+use Rattle.changes.specs.Changes.{doneOf, backOf, lengthBy, placeFault, letterFault, editFaults, accepts}
 use Rattle.changes.specs.declared.Change.{Change}
 use Rattle.changes.specs.declared.Change.the-variants.{Letter as ChangedLetter, Limits as ChangedLimits, PutIn as DidPutIn, TakeOut as DidTakeOut}
 use Rattle.changes.specs.declared.Edit.{Edit}
@@ -111,7 +111,7 @@ module _ (s : Sheet) (b : Bytes s) where
 
   -- a call for a change
   faults-short : (e : Edit) → Short (numbers (changeFaults s e))
-  unfolding changeFaults editFaults letterFault limitsFaults
+  unfolding changeFaults editFaults placeFault letterFault limitsFaults
   faults-short (EditLetter p c) = (omega arith, (omega arith, (omega arith, (omega arith, tt))))
   faults-short (EditLimits l) = (omega arith, (omega arith, (omega arith, (omega arith, tt))))
   faults-short (EditPutIn p c) = (omega arith, (omega arith, (omega arith, (omega arith, (omega arith, tt)))))

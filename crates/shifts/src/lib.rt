@@ -65,19 +65,22 @@ pub fn replaced(letters: [u8; LETTERS], limits: Limits, e: Edit) -> Change
     ensures { λ r. ⌜ r ≡ replacing e letters limits ⌝ }
 {
     match e {
-        Edit::Letter { place, byte } => Change::Letter {
-            place,
-            old: letters[place],
-            new: byte,
-        },
+        Edit::Letter { place, byte } => {
+            let old = letters[place];
+            Change::Letter {
+                place,
+                old,
+                new: byte,
+            }
+        }
         Edit::Limits { limits: asked } => Change::Limits {
             old: limits,
             new: asked,
         },
         Edit::PutIn { place, byte } => Change::PutIn { place, byte },
-        Edit::TakeOut { place } => Change::TakeOut {
-            place,
-            byte: letters[place],
-        },
+        Edit::TakeOut { place } => {
+            let byte = letters[place];
+            Change::TakeOut { place, byte }
+        }
     }
 }

@@ -10,8 +10,8 @@ use Rattle.shifts.proofs.replaced.Tie as tie
 enum-known-e : tie.Need-enum-known-e
 enum-known-e c = search needs
 
-array-read-t14 : tie.Need-array-read-t14
-array-read-t14 c = letter-inside _ _ (ap inPlaces (sym (c .before .e .given .1)) ∙ c .before .before .before .pre)
+array-read-old : tie.Need-array-read-old
+array-read-old c = letter-inside _ _ (ap inPlaces (sym (c .before .e .given .1)) ∙ c .before .before .before .pre)
 
 enum-known-e-2 : tie.Need-enum-known-e-2
 enum-known-e-2 c = search needs
@@ -22,8 +22,8 @@ enum-known-e-3 c = search needs
 enum-known-e-4 : tie.Need-enum-known-e-4
 enum-known-e-4 c = search needs
 
-array-read-t17 : tie.Need-array-read-t17
-array-read-t17 c = out-inside _ (ap inPlaces (sym (c .before .e4 .given .1)) ∙ c .before .before .before .pre)
+array-read-byte : tie.Need-array-read-byte
+array-read-byte c = out-inside _ (ap inPlaces (sym (c .before .e4 .given .1)) ∙ c .before .before .before .pre)
 
 returns : tie.Need-returns
 unfolding replacing
@@ -46,11 +46,11 @@ replaced-spec =
     tie.close
     (tie.spec
     enum-known-e
-    array-read-t14
+    array-read-old
     enum-known-e-2
     enum-known-e-3
     enum-known-e-4
-    array-read-t17
+    array-read-byte
     returns
     returns-2
     returns-3

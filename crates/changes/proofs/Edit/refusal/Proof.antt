@@ -2,16 +2,21 @@
 use borrow.Author.Needs.{needs}
 use borrow.Author.Tests.{le-leb, lt-leb, le-ltb, lt-ltb}
 use Rattle.terms.specs.Refusals.{firstFault}
-use Rattle.changes.specs.Changes.{editFaults}
+use Rattle.terms.proofs.Refusals.{fault-first, fault-next}
+use Rattle.changes.specs.Changes.{placeFault, letterFault, editFaults}
+use Rattle.changes.proofs.Accepting.{place-numbered}
 use Rattle.changes.proofs.Edit.refusal.Statement.{statement}
 use Rattle.changes.proofs.Edit.refusal.Tie as tie
 
 enum-known-self : tie.Need-enum-known-self
 enum-known-self c = search needs
 
+place-refusal-requires : tie.Need-place-refusal-requires
+place-refusal-requires c κs = search needs
+
 returns : tie.Need-returns
-unfolding editFaults firstFault
-returns c = rw (c .before .before .self .given .1, le-leb _ _ (c .if1 .taken))
+unfolding editFaults
+returns c = rw (c .before .before .before .self .given .1) (fault-first (placeFault _ _) (letterFault _ _) _ (c .before .place-refusal .ensures) (c .if1 .taken))
 
 letter-refusal-requires : tie.Need-letter-refusal-requires
 letter-refusal-requires c κs = search needs
@@ -39,31 +44,31 @@ letter-refusal-requires-2 c κs = search needs
 enum-known-self-4 : tie.Need-enum-known-self-4
 enum-known-self-4 c = search needs
 
+place-refusal-requires-2 : tie.Need-place-refusal-requires-2
+place-refusal-requires-2 c κs = search needs
+
 returns-4 : tie.Need-returns-4
-unfolding editFaults firstFault
-returns-4 c = rw (c .before .before .self4 .given .1, lt-leb _ _ (c .if4 .taken))
+unfolding editFaults
+returns-4 c = rw (c .before .before .before .before .self .given .1) (fault-next (placeFault _ _) (letterFault _ _) (place-numbered _ _) _ _ (c .before .before .place-refusal .ensures) (c .before .if1 .left) (c .letter-refusal .ensures))
 
 returns-5 : tie.Need-returns-5
-unfolding editFaults firstFault
-returns-5 c = rw (c .before .before .before .self .given .1) (simp (lt-leb _ _ (c .before .if1 .left)) (c .letter-refusal .ensures))
+unfolding editFaults
+returns-5 c = rw (c .before .before .self2 .given .1) (c .refusal .ensures)
 
 returns-6 : tie.Need-returns-6
-unfolding editFaults
-returns-6 c = rw (c .before .before .self2 .given .1) (c .refusal .ensures)
+unfolding editFaults firstFault
+returns-6 c = rw (c .before .before .before .before .self3 .given .1) (simp (le-ltb _ _ (c .before .before .if2 .left), lt-leb _ _ (c .before .if3 .left)) (c .letter-refusal2 .ensures))
 
 returns-7 : tie.Need-returns-7
-unfolding editFaults firstFault
-returns-7 c = rw (c .before .before .before .before .self3 .given .1) (simp (le-ltb _ _ (c .before .before .if2 .left), lt-leb _ _ (c .before .if3 .left)) (c .letter-refusal2 .ensures))
-
-returns-8 : tie.Need-returns-8
-unfolding editFaults firstFault
-returns-8 c = rw (c .before .before .self4 .given .1, le-leb _ _ (c .if4 .left))
+unfolding editFaults
+returns-7 c = rw (c .before .before .self4 .given .1) (c .place-refusal2 .ensures)
 
 pub refusal-spec : {M : Type 1} → statement M
 refusal-spec =
     tie.close
     (tie.spec
     enum-known-self
+    place-refusal-requires
     returns
     letter-refusal-requires
     enum-known-self-2
@@ -73,8 +78,8 @@ refusal-spec =
     returns-3
     letter-refusal-requires-2
     enum-known-self-4
+    place-refusal-requires-2
     returns-4
     returns-5
     returns-6
-    returns-7
-    returns-8)
+    returns-7)
