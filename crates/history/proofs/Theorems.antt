@@ -21,9 +21,9 @@ use Rattle.sheet.specs.declared.Said.the-variants.{Opened}
 use Rattle.sheet.specs.declared.Sheet.{Sheet}
 use Rattle.sheet.proofs.Within.{bounds}
 use Rattle.sheet.proofs.Replying.{answer-no, applied-accepted, changed-accepted}
-use Rattle.history.specs.History.{Content, History, Request, letter, letterIn, letterOut, limits, takeBack, putAgain, made, start, accept, decide, reckon}
+use Rattle.history.specs.History.{Content, History, Request, letter, letterIn, letterOut, limits, takeBack, putAgain, made, back, sayBack, start, accept, decide, reckon}
 use Rattle.history.specs.Runs.{contentOf, standingOf, takenOf, perform, Exchange, requested, asked, Run, after, Faithful}
-use Rattle.history.specs.Demand3.{Came, Demand3, NeverMore, AlphabetStays, RefusedStays, BackAndAgain, ChangeAndBack}
+use Rattle.history.specs.Demand3.{Came, Demand3, NeverMore, AlphabetStays, RefusedStays, BackAndAgain, Changes, ChangeAndBack}
 use Rattle.history.specs.Openings.{BlankToo, OpensAnew}
 use Rattle.history.proofs.Lists.{standing-length}
 use Rattle.history.proofs.Padding.{content-is}
@@ -144,24 +144,43 @@ pub back-and-again : BackAndAgain
 back-and-again x l xs s c =
     restored (record { text = x; limits = l }) s (s .standing) (s .taken) (came-ends x l xs s c .invariant)
 
+-- What is said of an edit is no refusal.
+says-none : (e : Edit) (was is : Content) (k : ℕ) → numberOf (sayBack e was is k) ≡ 0
+says-none (EditLetter p b) was is k = refl
+says-none (EditLimits l) was is k = refl
+says-none (EditPutIn p b) was is k = refl
+says-none (EditTakeOut p) was is k = refl
+
+-- A request for a change is reckoned by that change.
+asks-for : (h : History) (q : Request) (e : Edit) → Changes q e → reckon h q ≡ decide h e
+asks-for h (letter p b) e k = ap (decide h) (sym k)
+asks-for h (letterIn p b) e k = ap (decide h) (sym k)
+asks-for h (letterOut p) e k = ap (decide h) (sym k)
+asks-for h (limits l) e k = ap (decide h) (sym k)
+asks-for h takeBack e k = absurd k
+asks-for h putAgain e k = absurd k
+
 -- A change and take-back, of whatever kind.
 module _ {o : Content} {s : Sheet} (S : Invariant o s) where
   undone : (q : Request) (e : Edit) → reckon (historyOf o s) q ≡ decide (historyOf o s) e → numberOf (perform s q .said) ≡ 0
-      → (contentOf (takeBackCall (perform s q .sheet) .sheet) ≡ contentOf s) × (standingOf (takeBackCall (perform s q .sheet) .sheet) ≡ standingOf s)
+      → (numberOf (takeBackCall (perform s q .sheet) .said) ≡ 0)
+      × (contentOf (takeBackCall (perform s q .sheet) .sheet) ≡ contentOf s)
+      × (standingOf (takeBackCall (perform s q .sheet) .sheet) ≡ standingOf s)
+      × (takenOf (takeBackCall (perform s q .sheet) .sheet) ≡ e ∷ [])
   undone q e d z =
       let h : History = historyOf o s in
       let A = step S q in
       let B = step (A .0) takeBack in
       let n : numberOf (decide h e .1) ≡ 0 = ap (λ (y : History × Said). numberOf (y .1)) (sym d ∙ A .1) ∙ z in
       let a : historyOf o (perform s q .sheet) ≡ accept h e .0 = ap (λ (y : History × Said). y .0) (sym (A .1) ∙ d ∙ decide-accepts h e n) in
-      let b : standingOf (takeBackCall (perform s q .sheet) .sheet) ≡ standingOf s
-      = ap (λ (y : History × Said). y .0 .standing) (sym (B .1)) ∙ ap (λ (y : History). reckon y takeBack .0 .standing) a in
-      (content-is (B .0 .holds) ∙ ap (made o) b ∙ sym (content-is (S .holds)), b)
+      let b : (historyOf o (takeBackCall (perform s q .sheet) .sheet), takeBackCall (perform s q .sheet) .said) ≡ reckon (accept h e .0) takeBack
+      = sym (B .1) ∙ ap (λ (y : History). reckon y takeBack) a in
+      let t : standingOf (takeBackCall (perform s q .sheet) .sheet) ≡ standingOf s = ap (λ (y : History × Said). y .0 .standing) b in (
+        ap (λ (y : History × Said). numberOf (y .1)) b ∙ says-none (back (made o (standingOf s)) e) _ _ _,
+        content-is (B .0 .holds) ∙ ap (made o) t ∙ sym (content-is (S .holds)),
+        t,
+        ap (λ (y : History × Said). y .0 .taken) b,
+      )
 
 pub change-and-back : ChangeAndBack
-change-and-back x l xs s c (letter p b) k = undone (came-ends x l xs s c .invariant) (letter p b) (EditLetter p b) refl
-change-and-back x l xs s c (letterIn p b) k = undone (came-ends x l xs s c .invariant) (letterIn p b) (EditPutIn p b) refl
-change-and-back x l xs s c (letterOut p) k = undone (came-ends x l xs s c .invariant) (letterOut p) (EditTakeOut p) refl
-change-and-back x l xs s c (limits m) k = undone (came-ends x l xs s c .invariant) (limits m) (EditLimits m) refl
-change-and-back x l xs s c takeBack k = absurd k
-change-and-back x l xs s c putAgain k = absurd k
+change-and-back x l xs s c q e k = let S = came-ends x l xs s c .invariant in undone S q e (asks-for (historyOf (record { text = x; limits = l }) s) q e k)

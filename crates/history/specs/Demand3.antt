@@ -2,12 +2,14 @@
 -- answers as a sheet freshly opened with them would; every accepted change, take-back and put-again says back what it did and the number standing.
 use mathlib.Core.Path.{_≡_}
 use mathlib.Core.Bool.{true}
-use mathlib.Core.List.{List, _++_}
+use mathlib.Core.List.{List, [], _∷_, _++_}
 use Prim.Native.Nat.{_≤_}
 use lib.ListN.{length}
 use Rattle.terms.specs.Sizes.{mostLetters, mostChanges}
 use Rattle.terms.specs.Texts.{Text, size}
 use Rattle.terms.specs.declared.limits.Limits.{Limits}
+use Rattle.changes.specs.declared.Edit.{Edit}
+use Rattle.changes.specs.declared.Edit.the-variants.{Letter as EditLetter, Limits as EditLimits, PutIn as EditPutIn, TakeOut as EditTakeOut}
 use Rattle.sheet.specs.Bounds.{inBounds}
 use Rattle.sheet.specs.Calls.{numberOf, takeBackCall, putAgainCall, openCall}
 use Rattle.sheet.specs.declared.Sheet.{Sheet}
@@ -62,22 +64,24 @@ BackAndAgain =
     → numberOf (takeBackCall s .said) ≡ 0
     → (numberOf (putAgainCall (takeBackCall s .sheet) .said) ≡ 0) × (putAgainCall (takeBackCall s .sheet) .sheet ≡ s)
 
--- A request that asks for a change.
-abbrev pub Changes : Request → Type 0
-Changes (letter p b) = Unit {0}
-Changes (letterIn p b) = Unit {0}
-Changes (letterOut p) = Unit {0}
-Changes (limits l) = Unit {0}
-Changes Request.takeBack = ⊥
-Changes Request.putAgain = ⊥
+-- A request that asks for a change, and the change that it asks for.
+abbrev pub Changes : Request → Edit → Type 0
+Changes (letter p b) e = e ≡ EditLetter p b
+Changes (letterIn p b) e = e ≡ EditPutIn p b
+Changes (letterOut p) e = e ≡ EditTakeOut p
+Changes (limits l) e = e ≡ EditLimits l
+Changes Request.takeBack e = ⊥
+Changes Request.putAgain e = ⊥
 
--- An accepted change followed by take-back restores letters, limits and standing list.
+-- An accepted change followed by take-back, which is accepted, restores letters, limits and standing list only: that change is then all that is taken back.
 abbrev pub ChangeAndBack : Type 0
 ChangeAndBack =
     (x : Text) (l : Limits) (calls : List Exchange) (s : Sheet)
     → Came x l calls s
-    → (q : Request)
-    → Changes q
+    → (q : Request) (e : Edit)
+    → Changes q e
     → numberOf (perform s q .said) ≡ 0
-    → (contentOf (takeBackCall (perform s q .sheet) .sheet) ≡ contentOf s)
+    → (numberOf (takeBackCall (perform s q .sheet) .said) ≡ 0)
+    × (contentOf (takeBackCall (perform s q .sheet) .sheet) ≡ contentOf s)
     × (standingOf (takeBackCall (perform s q .sheet) .sheet) ≡ standingOf s)
+    × (takenOf (takeBackCall (perform s q .sheet) .sheet) ≡ e ∷ [])

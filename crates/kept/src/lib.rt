@@ -1,13 +1,14 @@
 // The kept changes of a sheet: one array with two counts. kept[0..standing] stand, oldest first; the next `taken` are taken back, the next to put again first.
 use changes::Change;
+use changes::Edit;
 use terms::CHANGES;
 ghost use mathlib.Core.Path.{_≡_};
 ghost use mathlib.Core.List.{[], _∷_};
 ghost use Prim.Native.Nat.{_+_, _-_, _≤_};
 ghost use lib.Dec.{eqb};
 ghost use Rattle.terms.specs.Refusals.{firstFault};
-ghost use Rattle.kept.specs.Lists.{keptAt, stepsBack, stepsForth, canGo, keptAccepted};
-ghost use Rattle.kept.specs.Work.{popping, poppedNumber};
+ghost use Rattle.kept.specs.Lists.{keptAt, keptAccepted};
+ghost use Rattle.kept.specs.Work.{popping, poppedNumber, stepPlace, stepLetters, stepEdit};
 
 // A change as the sheet keeps it: an array of structs, since a field can be no array of enums.
 pub struct Kept {
@@ -20,55 +21,37 @@ pub enum Popped {
     Nothing,
 }
 
-// Whether one can go from n letters back through the changes that stand, the newest first.
-fn can_go_back(kept: [Kept; CHANGES], standing: usize, n: usize, alphabet: &[u8]) -> bool
-    requires { ⌜ standing ≤ 64 ⌝ }
-    ensures { λ r. ⌜ r ≡ canGo n (now (alphabet .entry)) (stepsBack kept standing) ⌝ }
+// The steps of the one loop that judges go back over those that stand, the newest first, then forth over those taken back. The place of the change that step i goes over.
+fn step_place(i: usize, standing: usize) -> usize
+    ensures { λ r. ⌜ r ≡ stepPlace i standing ⌝ }
 {
-    let mut m = n;
-    let mut i = standing;
-    while 0 < i {
-        let k = kept[i - 1];
-        let c = k.what;
-        let back = c.back();
-        if !back.accepted_then(c.done(), m, alphabet) {
-            return false;
-        }
-        m = back.length_after(m);
-        i -= 1;
+    if standing <= i {
+        return i;
     }
-    true
+    standing - 1 - i
 }
 
-// Whether one can go from n letters forth through the changes that are taken back.
-fn can_go_forth(
-    kept: [Kept; CHANGES],
-    standing: usize,
-    taken: usize,
-    n: usize,
-    alphabet: &[u8],
-) -> bool
-    requires { ⌜ standing + taken ≤ 64 ⌝ }
-    ensures { λ r. ⌜ r ≡ canGo n (now (alphabet .entry)) (stepsForth kept standing taken) ⌝ }
+// The number of letters that step i begins with: the way forth begins anew with the present n, every other step with what the one before has reached.
+fn step_letters(i: usize, standing: usize, n: usize, reached: usize) -> usize
+    ensures { λ r. ⌜ r ≡ stepLetters i standing n reached ⌝ }
 {
-    let mut m = n;
-    let mut i = standing;
-    let mut t = taken;
-    while 0 < t {
-        let k = kept[i];
-        let c = k.what;
-        let done = c.done();
-        if !done.accepted_then(c.back(), m, alphabet) {
-            return false;
-        }
-        m = done.length_after(m);
-        i += 1;
-        t -= 1;
+    if i == standing {
+        return n;
     }
-    true
+    reached
 }
 
-// Whether there are at most 64 changes in both lists together, each one that its call would accept at the length it was made for.
+// The edit that goes over a change, forth or back.
+fn step_edit(c: Change, forth: bool) -> Edit
+    ensures { λ r. ⌜ r ≡ stepEdit c forth ⌝ }
+{
+    if forth {
+        return c.done();
+    }
+    c.back()
+}
+
+// Whether there are at most 64 changes in both lists together, each one that its call would accept at the length it was made for. One loop for both ways: lent to a function for each, the changes would be copied again.
 pub fn accepted(
     kept: [Kept; CHANGES],
     standing: usize,
@@ -84,10 +67,23 @@ pub fn accepted(
     if CHANGES - standing < taken {
         return false;
     }
-    if !can_go_back(kept, standing, n, alphabet) {
-        return false;
+    let mut reached = n;
+    let mut i = 0;
+    while i < standing + taken {
+        let place = step_place(i, standing);
+        let k = kept[place];
+        let c = k.what;
+        let forth = standing <= i;
+        let there = step_edit(c, forth);
+        let again = step_edit(c, !forth);
+        let letters = step_letters(i, standing, n, reached);
+        if !there.accepted_then(again, letters, alphabet) {
+            return false;
+        }
+        reached = there.length_after(letters);
+        i += 1;
     }
-    can_go_forth(kept, standing, taken, n, alphabet)
+    true
 }
 
 // Pops the newest standing change, if any stands.
