@@ -16,10 +16,11 @@ enum {
     NO_SHEET = 14
 };
 
+/* By its call's letter: L, I and X have a place and a letter, L the new one too; K and M have two limits, old and new. */
 typedef struct {
-    bool is_letter;
+    char call;
     unsigned place;
-    uint8_t old_letter, new_letter;
+    uint8_t letter, new_letter;
     Limits old_limits, new_limits;
 } Change;
 
@@ -203,45 +204,99 @@ static void open_sheet(Limits limits, bool complement, const uint8_t *string, si
     put_line('O', (unsigned[]){sheet.n, 0}, 2);
 }
 
-static void put_limits_line(void) {
+static void put_limits_line(char call) {
     Limits now = sheet.limits;
-    put_line('M', (unsigned[]){now.kind, now.m, now.g, now.d, sheet.standing}, 5);
+    put_line(call, (unsigned[]){now.kind, now.m, now.g, now.d, sheet.standing}, 5);
 }
 
-static void put_letter_line(unsigned place, uint8_t replaced) {
-    put_line('L', (unsigned[]){place, replaced, sheet.letters[place], sheet.standing}, 4);
+/* K sets kind and d, M sets m and g; each keeps what it does not name. */
+static Limits with_limits(char call, Limits asked) {
+    Limits limits = sheet.limits;
+    if (call == 'K') {
+        limits.kind = asked.kind;
+        limits.d = asked.d;
+    } else {
+        limits.m = asked.m;
+        limits.g = asked.g;
+    }
+    return limits;
+}
+
+static void set_limits(char call, Limits asked) {
+    sheet.limits = with_limits(call, asked);
+    put_limits_line(call);
+}
+
+static void set_letter(unsigned place, uint8_t letter) {
+    uint8_t replaced = sheet.letters[place];
+    sheet.letters[place] = letter;
+    put_line('L', (unsigned[]){place, replaced, letter, sheet.standing}, 4);
+}
+
+static void put_letter_in(unsigned place, uint8_t letter) {
+    memmove(sheet.letters + place + 1, sheet.letters + place, sheet.n - place);
+    sheet.letters[place] = letter;
+    sheet.n++;
+    put_line('I', (unsigned[]){place, letter, sheet.n, sheet.standing}, 4);
+}
+
+static void take_letter_out(unsigned place) {
+    uint8_t letter = sheet.letters[place];
+    sheet.n--;
+    memmove(sheet.letters + place, sheet.letters + place + 1, sheet.n - place);
+    put_line('X', (unsigned[]){place, letter, sheet.n, sheet.standing}, 4);
+}
+
+static void make(const Change *change) {
+    switch (change->call) {
+    case 'L': set_letter(change->place, change->new_letter); break;
+    case 'I': put_letter_in(change->place, change->letter); break;
+    case 'X': take_letter_out(change->place); break;
+    default: set_limits(change->call, change->new_limits);
+    }
+}
+
+static void undo(const Change *change) {
+    switch (change->call) {
+    case 'L': set_letter(change->place, change->letter); break;
+    case 'I': take_letter_out(change->place); break;
+    case 'X': put_letter_in(change->place, change->letter); break;
+    default: set_limits(change->call, change->old_limits);
+    }
 }
 
 /* A new change drops those that were taken back. */
-static void keep_change(Change change) {
+static void accept(Change change) {
     sheet.changes[sheet.standing++] = change;
     sheet.kept = sheet.standing;
+    make(&sheet.changes[sheet.standing - 1]);
 }
 
-static void change_letter(unsigned place, uint8_t letter) {
-    if (place >= sheet.n) {
-        put_refusal(NO_SUCH_PLACE);
-    } else if (sheet.standing == CHANGES) {
-        put_refusal(CHANGES_FULL);
-    } else {
-        uint8_t replaced = sheet.letters[place];
-        keep_change((Change){.is_letter = true, .place = place, .old_letter = replaced, .new_letter = letter});
-        sheet.letters[place] = letter;
-        put_letter_line(place, replaced);
-    }
+static unsigned refusal_of_letter(char call, unsigned place) {
+    if (call == 'I' ? place > sheet.n : place >= sheet.n)
+        return NO_SUCH_PLACE;
+    return call == 'I' && sheet.n == LETTERS ? TOO_MANY_LETTERS : 0;
 }
 
-static void change_limits(Limits limits) {
-    unsigned refusal = refusal_of_limits(limits);
+static void accept_or_refuse(unsigned refusal, Change change) {
     if (refusal == 0 && sheet.standing == CHANGES)
         refusal = CHANGES_FULL;
-    if (refusal != 0) {
+    if (refusal == 0)
+        accept(change);
+    else
         put_refusal(refusal);
-        return;
-    }
-    keep_change((Change){.is_letter = false, .old_limits = sheet.limits, .new_limits = limits});
-    sheet.limits = limits;
-    put_limits_line();
+}
+
+static void change_letter(char call, unsigned place, uint8_t letter) {
+    unsigned refusal = refusal_of_letter(call, place);
+    uint8_t there = refusal == 0 && call != 'I' ? sheet.letters[place] : letter;
+    accept_or_refuse(refusal, (Change){.call = call, .place = place, .letter = there, .new_letter = letter});
+}
+
+/* The limits in force pass, so what the call does not name is refused by nothing. */
+static void change_limits(char call, Limits asked) {
+    Limits limits = with_limits(call, asked);
+    accept_or_refuse(refusal_of_limits(limits), (Change){.call = call, .old_limits = sheet.limits, .new_limits = limits});
 }
 
 static void take_back(void) {
@@ -249,16 +304,10 @@ static void take_back(void) {
         put_refusal(NOTHING_TO_TAKE_BACK);
         return;
     }
-    const Change *change = &sheet.changes[--sheet.standing];
     put_char('B');
     put_char(' ');
-    if (change->is_letter) {
-        sheet.letters[change->place] = change->old_letter;
-        put_letter_line(change->place, change->new_letter);
-    } else {
-        sheet.limits = change->old_limits;
-        put_limits_line();
-    }
+    sheet.standing--;
+    undo(&sheet.changes[sheet.standing]);
 }
 
 static void put_again(void) {
@@ -266,16 +315,10 @@ static void put_again(void) {
         put_refusal(NOTHING_TO_PUT_AGAIN);
         return;
     }
-    const Change *change = &sheet.changes[sheet.standing++];
     put_char('A');
     put_char(' ');
-    if (change->is_letter) {
-        sheet.letters[change->place] = change->new_letter;
-        put_letter_line(change->place, change->old_letter);
-    } else {
-        sheet.limits = change->new_limits;
-        put_limits_line();
-    }
+    sheet.standing++;
+    make(&sheet.changes[sheet.standing - 1]);
 }
 
 /* ---- Lines ---- */
@@ -291,23 +334,29 @@ static bool answer_open(Cursor *cursor) {
     return true;
 }
 
-static bool answer_letter(Cursor *cursor) {
-    unsigned place, byte;
-    if (!take_number(cursor, &place) || !take_number(cursor, &byte) || byte > 255 || cursor->at != cursor->end)
+/* One or two numbers, then the end of the line. */
+static bool take_numbers(Cursor *cursor, unsigned *first, unsigned *second) {
+    return take_number(cursor, first) && (second == NULL || take_number(cursor, second)) && cursor->at == cursor->end;
+}
+
+static bool answer_letter(char call, Cursor *cursor) {
+    unsigned place, byte = 0;
+    if (!take_numbers(cursor, &place, call == 'X' ? NULL : &byte) || byte > 255)
         return false;
     if (sheet.is_open)
-        change_letter(place, (uint8_t)byte);
+        change_letter(call, place, (uint8_t)byte);
     else
         put_refusal(NO_SHEET);
     return true;
 }
 
-static bool answer_limits(Cursor *cursor) {
-    Limits limits;
-    if (!take_limits(cursor, &limits) || cursor->at != cursor->end)
+static bool answer_limits(char call, Cursor *cursor) {
+    Limits asked = {0};
+    bool is_kind = call == 'K';
+    if (!take_numbers(cursor, is_kind ? &asked.kind : &asked.m, is_kind ? &asked.d : &asked.g))
         return false;
     if (sheet.is_open)
-        change_limits(limits);
+        change_limits(call, asked);
     else
         put_refusal(NO_SHEET);
     return true;
@@ -330,8 +379,11 @@ static bool answer_line(const uint8_t *line, size_t length) {
         return false;
     switch (letter) {
     case 'O': return answer_open(&cursor);
-    case 'L': return answer_letter(&cursor);
-    case 'M': return answer_limits(&cursor);
+    case 'L':
+    case 'I':
+    case 'X': return answer_letter((char)letter, &cursor);
+    case 'K':
+    case 'M': return answer_limits((char)letter, &cursor);
     case 'B': return answer_bare(&cursor, take_back);
     case 'A': return answer_bare(&cursor, put_again);
     case 'Q': return answer_bare(&cursor, answer_question);

@@ -6,12 +6,12 @@
 
 Each COMMAND runs a program under test on standard input and output. Seeded
 scripts are sent to it, and each reply is compared byte for byte with that of
-tests/second.py; where 01, requests L1 to L5 or their readings settle the
+tests/second.py; where 01, requests L1 to L6 or their readings settle the
 answer, also with a text written by hand. Scripts over maps and alphabets, and
-those with letters put in and taken out, have to show all that can come of
-them. --long does ten times as much. --spoil flips one byte of each program's
-output, to show that the comparison can fail. The last line is 'N passed, M
-failed', and the exit status is 0 only where nothing failed.
+those with letters put in and taken out or with limits set, have to show all
+that can come of them. --long does ten times as much. --spoil flips one byte of
+each program's output, to show that the comparison can fail. The last line is
+'N passed, M failed', and the exit status is 0 only where nothing failed.
 """
 
 import argparse
@@ -27,6 +27,7 @@ import time
 # Keeps the tests' directory free of compiled files.
 sys.dont_write_bytecode = True
 import alphabets  # noqa: E402
+import calls  # noqa: E402
 import places  # noqa: E402
 import second  # noqa: E402
 import stops  # noqa: E402
@@ -35,8 +36,10 @@ from alphabet_texts import (  # noqa: E402
 from damage import RECORD, RETURN_WAYS, Returned  # noqa: E402
 from drawing import (  # noqa: E402
     agreement_question, any_limits, any_map, any_string, fibonacci_word,
-    joined, opening, parts_given, random_word, room_near, table_entries,
-    tiling_question, usual_limits)
+    joined, limit_lines, opening, parts_given, random_word, room_near,
+    table_entries, tiling_question, usual_limits)
+from limit_texts import LIMIT_READINGS  # noqa: E402
+from limits import GROUPS as LIMIT_GROUPS, in_turn_lines  # noqa: E402
 from map_texts import MAP_READINGS  # noqa: E402
 from place_texts import PLACE_READINGS  # noqa: E402
 from selfcheck import small_strings  # noqa: E402
@@ -437,7 +440,7 @@ def misheard(source, line):
         lambda: line + b"\0", lambda: line + b"\x85", lambda: line + b" 7",
         lambda: line.lower(), lambda: line + line,
         # One change for another: an X line with a byte, an I line without.
-        lambda: source.choice([b"I", b"X", b"L"]) + line[1:],
+        lambda: source.choice(calls.CHANGES) + line[1:],
         lambda: with_noise_byte(source, line),
         lambda: with_noise_byte(source, line),
     ]
@@ -450,16 +453,18 @@ def wrong_line(source):
         return source.choice([b"", b" ", b"X", b"HELP", b"\r", b"\0", b"\xff",
                               b"L", b"M", b"O", b"QQ", b"BA", b"0", b"Q Q",
                               b"!", b"E", b"\xc3\x96 1 2 2 0 I AC", b"I",
-                              b"I 0", b"X 0 65", b"B X", b"IX 0"])
+                              b"I 0", b"X 0 65", b"B X", b"IX 0", b"K",
+                              b"K 1", b"M 1", b"K 1 0 0", b"M 1 2 2 0",
+                              b"B K", b"KM 1 0"])
     if sort == 1:
         length = source.choice([1040, 1041, 1042, 2081, 5000])
         head = source.choice([b"O 1 2 2 0 I ", b"Q", b"L 0 65 ", b"I 0 65 ",
-                              b"X 0 ", b"", b" "])
+                              b"X 0 ", b"K 1 0 ", b"M 1 0 ", b"", b" "])
         return (head + b"ACGT" * 1300)[:length]
     if sort == 2:
         return refused_long_opening(source)
     return random_word(
-        source, b"OLMIXBAQ 0123456789IC", source.randrange(1, 16))
+        source, b"OLKMIXBAQ 0123456789IC", source.randrange(1, 16))
 
 
 def refused_long_opening(source):
@@ -468,14 +473,14 @@ def refused_long_opening(source):
     return opening(usual_limits(source), any_map(source), b"A" * length)
 
 
-CALL_WEIGHTS = [(b"O", 5), (b"L", 14), (b"I", 14), (b"X", 10), (b"M", 10),
-                (b"B", 18), (b"A", 12), (b"Q", 16), (b"wrong", 7)]
+CALL_WEIGHTS = [(b"O", 5), (b"L", 14), (b"I", 14), (b"X", 10), (b"K", 7),
+                (b"M", 7), (b"B", 18), (b"A", 12), (b"Q", 16), (b"wrong", 7)]
 
 
 def call_line(source, sort, count):
     """On a sheet of so many letters."""
-    if sort in places.CHANGES:
-        return places.change_line(source, sort, count)
+    if sort in calls.CHANGES:
+        return calls.change_line(source, sort, count)
     return wrong_line(source) if sort == b"wrong" else sort
 
 
@@ -484,7 +489,7 @@ def random_call(source, line_count, lengths, question_share=1.0):
     sorts = [sort for sort, _ in CALL_WEIGHTS]
     weights = [weight * (question_share if sort == b"Q" else 1)
                for sort, weight in CALL_WEIGHTS]
-    clerk = places.Clerk()
+    clerk = calls.Clerk()
     for index in range(line_count):
         sort = source.choices(sorts, weights)[0]
         if index == 4 or sort == b"O":
@@ -501,16 +506,16 @@ def random_call(source, line_count, lengths, question_share=1.0):
 def history_call(source, rounds):
     """Runs of one sort of line, long enough to pass 64 changes."""
     string = b"A" * source.choice([0, 1, 3, 8, 20])
-    clerk = places.Clerk()
+    clerk = calls.Clerk()
     clerk.type(opening([1, 1, 1, 0], any_map(source), string))
     for _ in range(rounds):
-        sort = source.choice(places.CHANGES + [b"I", b"B", b"B", b"A", b"A"])
+        sort = source.choice(calls.CHANGES + [b"I", b"B", b"B", b"A", b"A"])
         for _ in range(source.choice([1, 2, 5, 30, 63, 64, 65, 70])):
             clerk.type(call_line(source, sort, clerk.count()))
         clerk.type(source.choice([
-            b"Q", b"B", b"A", b"L 9999 65", b"M 3 1 0 0", b"L 0 256",
-            b"I 9999 65", b"I 0 256", b"X 9999", b"X", b"O 3 1 0 0 I A",
-            refused_long_opening(source)]))
+            b"Q", b"B", b"A", b"L 9999 65", b"L 0 256", b"K 3 0", b"K 1 1",
+            b"M 0 0", b"M 1 2 2 0", b"I 9999 65", b"I 0 256", b"X 9999", b"X",
+            b"O 3 1 0 0 I A", refused_long_opening(source)]))
     return clerk.lines
 
 
@@ -535,7 +540,7 @@ SHORT_LENGTHS = [0, 1, 2, 3, 4, 5, 6, 7, 8, 9, 10, 11, 12, 16, 25, 40]
 def many_limits(source, string, map_name, count):
     lines = [opening(usual_limits(source), map_name, string), b"Q"]
     for _ in range(count):
-        lines += [joined(b"M", *usual_limits(source)), b"Q"]
+        lines += limit_lines(usual_limits(source)) + [b"Q"]
     return lines
 
 
@@ -578,9 +583,9 @@ def full_length_lines(source):
     lines += [joined(b"L", one, source.choice(b"ACGT")), b"Q",
               joined(b"X", other),
               joined(b"I", third, source.choice(b"ACGT")), b"Q"]
-    lines += [joined(b"M", 2, source.choice([5, 8, 11]), 15,
-                     source.choice([1, 2, 4])), b"Q", b"B", b"B", b"A"]
-    return lines
+    lines += limit_lines([2, source.choice([5, 8, 11]), 15,
+                          source.choice([1, 2, 4])])
+    return lines + [b"Q", b"B", b"B", b"B", b"A"]
 
 
 def heavy_scripts():
@@ -591,20 +596,20 @@ def heavy_scripts():
             opening([1, 1, 15, 0], b"I", same), b"Q", b"L 500 67", b"Q"]),
         Script("all A, long pieces only", [
             opening([1, 900, 15, 0], b"I", same), b"L 3 67", b"L 996 67",
-            b"Q", b"M 2 1000 15 15", b"Q", b"M 2 1 0 15", b"Q"]),
+            b"Q", b"K 2 15", b"M 1000 15", b"Q", b"M 1 0", b"Q"]),
         Script("AT and AC repeated", [
             opening([1, 4, 15, 0], b"C", b"AT" * 500), b"L 501 67", b"Q",
             opening([2, 3, 15, 2], b"I", b"AC" * 500), b"L 333 71", b"Q"]),
         Script("Fibonacci word", [
             opening([1, 5, 15, 0], b"I", fibonacci_word(1000)), b"Q",
-            b"L 612 84", b"Q", b"M 2 9 15 1", b"Q"]),
+            b"L 612 84", b"Q", b"K 2 1", b"M 9 15", b"Q"]),
     ]
 
 
 def noise_scripts(seed, size):
     plain = seeded(seed, "noise").randbytes(size // 2)
     source = seeded(seed, "noise of known letters")
-    alphabet = b"OLMIXBAQ QQBA 0123456789 IC ACGT\n\n\n"
+    alphabet = b"OLKMIXBAQ QQBA 0123456789 IC ACGT\n\n\n"
     known = random_word(source, alphabet, size // 2)
     first = b"O 2 1 2 1 C ACGTTGCA\n"
     return [raw_script("noise", plain, None),
@@ -625,25 +630,26 @@ def long_line_scripts(seed):
     source = seeded(seed, "long lines")
     lines = [opening([1, 1, 1, 0], b"I", b"ACCA")]
     for length in (1040, 1041, 5000, 100000, 1039, 4096, 8192, 65536, 65537):
-        body = random_word(source, b"ACQ BLMIX017", length)
+        body = random_word(source, b"ACQ BLKMIX017", length)
         lines += [body, b"Q", (b"O 1 1 1 0 I " + body)[:length], b"B"]
     yield Script("long lines", lines)
     yield Script("long lines in pieces", lines, sent="pieces")
 
 
-def misheard_changes(source):
+def misheard_changes(source, lines_from):
     """On an open sheet."""
     return [opening(usual_limits(source), any_map(source), b"ACGTTGCA")] \
-        + misheard_sample(source, places.full_history_lines)
+        + misheard_sample(source, lines_from)
 
 
-def place_scripts(seed, times):
-    """The numbers are those of the readings of 02, L5."""
-    yield from hand_scripts("L5 reading", PLACE_READINGS)
-    for name, count, lines_from, find_faults in places.GROUPS:
-        yield from many(seed, "L5 readings " + name, count * times, lines_from,
-                        find_faults=find_faults)
-    yield from many(seed, "L5: misheard lines", 2 * times, misheard_changes)
+def change_scripts(seed, times, request, readings, groups, misheard_from):
+    """The numbers are those of the readings of that request of 02."""
+    yield from hand_scripts(request + " reading", readings)
+    for name, count, lines_from, find_faults in groups:
+        yield from many(seed, "%s readings %s" % (request, name),
+                        count * times, lines_from, find_faults=find_faults)
+    yield from many(seed, request + ": misheard lines", 2 * times,
+                    lambda s: misheard_changes(s, misheard_from))
 
 
 def call_scripts(seed, times):
@@ -677,7 +683,10 @@ def call_scripts(seed, times):
         seed, lambda s: random_call(s, 150, SHORT_LENGTHS))
     yield from hand_scripts("L2 reading", CALLS_WITH_ALL_BYTES)
     yield from hand_scripts("L3 reading", CALLS_WITHOUT_STOPS)
-    yield from place_scripts(seed, times)
+    yield from change_scripts(seed, times, "L5", PLACE_READINGS,
+                              places.GROUPS, places.any_history_lines)
+    yield from change_scripts(seed, times, "L6", LIMIT_READINGS,
+                              LIMIT_GROUPS, in_turn_lines)
 
 
 # Lines and groups of scripts for the inspect program. Those over alphabets are

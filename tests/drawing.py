@@ -120,6 +120,20 @@ def opening(limits, map_name, string):
     return joined(b"O", *limits, map_name, string)
 
 
+def kind_line(limits):
+    """Sets kind and d of these limits."""
+    return joined(b"K", limits[0], limits[3])
+
+
+def length_line(limits):
+    """Sets m and g of these limits."""
+    return joined(b"M", limits[1], limits[2])
+
+
+def limit_lines(limits):
+    return [kind_line(limits), length_line(limits)]
+
+
 def tiling_question(source, letter, limits, map_name, alphabet, string):
     """T or S, with rooms near what is needed."""
     table = room_near(source, table_entries(string, limits[2]))

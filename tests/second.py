@@ -1,7 +1,7 @@
 #!/usr/bin/env python3
 """An independent second program for the call program and for inspection.
 
-Written from the build description (01), from requests L1 to L5 (02) and from
+Written from the build description (01), from requests L1 to L6 (02) and from
 how docs/DECISIONS.md reads them, by the definitions, so that it shares no code
 with the program that it is compared with.
 
@@ -387,13 +387,22 @@ def refuse_spelling(letters, letter_map, alphabet):
         refuse_letter(letter, alphabet)
 
 
-def refuse_limits(kind, m, g, d):
+def refuse_kind_and_errors(kind, d):
     if kind not in (1, 2):
         raise Refusal(4)
-    if m == 0 or m > MOST_LETTERS or g > MOST_GAPS or d > MOST_ERRORS:
+    if d > MOST_ERRORS or kind == 1 and d != 0:
         raise Refusal(5)
-    if kind == 1 and d != 0:
+
+
+def refuse_length_and_gaps(m, g):
+    if m == 0 or m > MOST_LETTERS or g > MOST_GAPS:
         raise Refusal(5)
+
+
+def refuse_limits(kind, m, g, d):
+    """4 before any 5: kind and d come first."""
+    refuse_kind_and_errors(kind, d)
+    refuse_length_and_gaps(m, g)
 
 
 # Part records, written and read back.
@@ -489,10 +498,11 @@ def ask_agreement(letters, letter_map, alphabet, limits, file):
 
 # The sheet.
 
-# A change is (sort, place, old, new): a letter (L) or limits (M) with what it
-# replaces, a put-in (I) without an old letter, a take-out (X) without a new
-# one. To take it back is to make it the other way round, old for new.
-OTHER_WAY_ROUND = {"L": "L", "M": "M", "I": "X", "X": "I"}
+# A change is (sort, place, old, new): a letter (L), kind and d (K) or m and g
+# (M) with what it replaces, a put-in (I) without an old letter, a take-out (X)
+# without a new one. To take it back is to make it the other way round, old for
+# new.
+OTHER_WAY_ROUND = {"L": "L", "K": "K", "M": "M", "I": "X", "X": "I"}
 
 
 class Sheet:
@@ -534,10 +544,17 @@ class Sheet:
         self.refuse_when_full()
         return self.accept(("X", place, self.letters[place], None))
 
-    def change_limits(self, kind, m, g, d):
-        refuse_limits(kind, m, g, d)
+    def change_kind_and_errors(self, kind, d):
+        refuse_kind_and_errors(kind, d)
         self.refuse_when_full()
-        return self.accept(("M", None, self.limits, (kind, m, g, d)))
+        old_kind, _, _, old_d = self.limits
+        return self.accept(("K", None, (old_kind, old_d), (kind, d)))
+
+    def change_length_and_gaps(self, m, g):
+        refuse_length_and_gaps(m, g)
+        self.refuse_when_full()
+        _, old_m, old_g, _ = self.limits
+        return self.accept(("M", None, (old_m, old_g), (m, g)))
 
     def refuse_when_full(self):
         if len(self.standing) >= MOST_CHANGES:
@@ -576,23 +593,33 @@ class Sheet:
             self.letters.pop(place)
             said = (place, old, len(self.letters))
         else:
-            self.limits = new
-            said = new
+            self.set_limits(sort, new)
+            said = self.limits
         self.check()
         return line_of(sort, *said, len(self.standing))
+
+    def set_limits(self, sort, new):
+        """The two that the change names; the other two are kept."""
+        kind, m, g, d = self.limits
+        if sort == "K":
+            self.limits = (new[0], m, g, new[1])
+        else:
+            self.limits = (kind, new[0], new[1], d)
 
     def reckoned(self):
         """Letters and limits afresh: those of the opening, with the standing
         changes made in order. What they replaced isn't looked at."""
-        letters, limits = self.opened
+        letters, (kind, m, g, d) = self.opened
         for sort, place, _, new in self.standing:
-            if sort == "M":
-                limits = new
-                continue
-            following = place if sort == "I" else place + 1
-            written = b"" if sort == "X" else bytes([new])
-            letters = letters[:place] + written + letters[following:]
-        return letters, limits
+            if sort == "K":
+                kind, d = new
+            elif sort == "M":
+                m, g = new
+            else:
+                following = place if sort == "I" else place + 1
+                written = b"" if sort == "X" else bytes([new])
+                letters = letters[:place] + written + letters[following:]
+        return letters, (kind, m, g, d)
 
     def check(self):
         if (bytes(self.letters), self.limits) != self.reckoned():
@@ -689,12 +716,14 @@ class CallProgram:
         elif sort == b"X":
             name, place = fields_of(line, 2)
             numbers = (number_from(place),)
-        elif sort == b"M":
-            name, *limits = fields_of(line, 5)
+        elif sort in (b"K", b"M"):
+            name, *limits = fields_of(line, 3)
             numbers = numbers_from(limits)
         else:
             name, numbers = line, ()
-        calls = {b"L": Sheet.change_letter, b"M": Sheet.change_limits,
+        calls = {b"L": Sheet.change_letter,
+                 b"K": Sheet.change_kind_and_errors,
+                 b"M": Sheet.change_length_and_gaps,
                  b"I": Sheet.put_in, b"X": Sheet.take_out,
                  b"B": said_back("B", Sheet.take_back),
                  b"A": said_back("A", Sheet.put_again), b"Q": question_lines}

@@ -454,15 +454,26 @@ def check_random_files(random_source, rounds):
 # The sheet's calls, named by their letters in the call program.
 
 SHEET_CALLS = {
-    "L": Sheet.change_letter, "M": Sheet.change_limits, "I": Sheet.put_in,
+    "L": Sheet.change_letter, "K": Sheet.change_kind_and_errors,
+    "M": Sheet.change_length_and_gaps, "I": Sheet.put_in,
     "X": Sheet.take_out, "B": Sheet.take_back, "A": Sheet.put_again}
 
-# The lists of 01, L2 and L5, in testing order.
-REFUSALS_OF_CALLS = {"L": [6, 19, 7], "M": [4, 5, 7], "I": [6, 1, 19, 7],
-                     "X": [6, 7], "B": [8], "A": [9]}
+# The lists of 01, L2, L5 and L6, in testing order.
+REFUSALS_OF_CALLS = {"L": [6, 19, 7], "K": [4, 5, 7], "M": [5, 7],
+                     "I": [6, 1, 19, 7], "X": [6, 7], "B": [8], "A": [9]}
 
 # How take-back shows each change.
-SHOWN_BACK = {"L": "L", "M": "M", "I": "X", "X": "I"}
+SHOWN_BACK = {"L": "L", "K": "K", "M": "M", "I": "X", "X": "I"}
+
+
+def with_asked_limits(limits, sort, numbers):
+    """Those that K or M leads to: two as asked for, the other two kept."""
+    kind, m, g, d = limits
+    if sort == "K":
+        kind, d = numbers
+    else:
+        m, g = numbers
+    return kind, m, g, d
 
 
 class Followed:
@@ -486,9 +497,14 @@ class Followed:
         self.letters = bytes(map(self.letter_at, range(self.count())))
 
     def limits(self):
-        """Those asked for last."""
-        asked = [numbers for sort, numbers in self.standing if sort == "M"]
-        return asked[-1] if asked else self.opened_limits
+        """Those of the opening, but for kind and d as asked for last, and for
+        m and g."""
+        limits = self.opened_limits
+        for sort in ("K", "M"):
+            asked = [change for change in self.standing if change[0] == sort]
+            if asked:
+                limits = with_asked_limits(limits, *asked[-1])
+        return limits
 
     def count(self):
         sorts = [sort for sort, _ in self.standing]
@@ -514,8 +530,11 @@ def call_tests(followed, name, sort, numbers):
     if sort == "A":
         return [(9, not followed.taken_back)]
     full = [(7, len(followed.standing) >= MOST_CHANGES)]
-    if sort == "M":
-        return limit_tests(*numbers) + full
+    if sort in ("K", "M"):
+        # All four as an opening tests them: what is kept passes, so that only
+        # what the call names can be refused.
+        return limit_tests(*with_asked_limits(
+            followed.limits(), sort, numbers)) + full
     place, count = numbers[0], followed.count()
     if sort == "X":
         return [(6, place >= count)] + full
@@ -550,7 +569,7 @@ def followed_reply(followed, sort, numbers):
     shown, asked = change_shown(followed, sort, numbers)
     followed.follow(sort, numbers)
     said = followed.limits()
-    if shown != "M":
+    if shown not in ("K", "M"):
         said = letters_said(shown, asked[0], before, followed.letters)
     return shown, line_of(shown, *said, len(followed.standing))
 
@@ -566,7 +585,7 @@ def reply_of(sheet, sort, numbers):
 def as_asked(change):
     """A change that the sheet keeps, without what it replaced."""
     sort, place, _, new = change
-    if sort == "M":
+    if sort in ("K", "M"):
         return sort, new
     return sort, (place,) if sort == "X" else (place, new)
 
@@ -603,15 +622,44 @@ def check_call(sheet, followed, name, sort, numbers):
         (sort,) + two for two in itertools.combinations(held, 2)}
 
 
+# Kinds, shortest lengths, and numbers of gaps or errors: right ones, those at
+# the bounds and past them, and some that a byte would cut to right ones.
+ASKED_KINDS = [0, 1, 2, 3, 4, 255, 256, 257, 258, 513, 9999]
+ASKED_LENGTHS = [0, 1, 2, 15, 16, 255, 256, 257, 999, 1000, 1001, 1024, 9999]
+ASKED_COUNTS = list(range(18)) + [255, 256, 257, 271, 272, 9999]
+
+
+def check_limit_calls():
+    """K and M with each value beside each, from either kind; one that is made
+    is taken back before the next."""
+    asked = [("K", two)
+             for two in itertools.product(ASKED_KINDS, ASKED_COUNTS)]
+    asked += [("M", two)
+              for two in itertools.product(ASKED_LENGTHS, ASKED_COUNTS)]
+    sheets = [(1, 1, 0, 0), (2, 1000, 15, 15)]
+    for limits in sheets:
+        sheet = Sheet(b"", INSPECT_MAPS[b"I"], ALPHABETS[b"*"], *limits)
+        followed = Followed(b"", limits)
+        for sort, numbers in asked:
+            check_call(sheet, followed, b"*", sort, numbers)
+            if followed.standing:
+                check_call(sheet, followed, b"*", "B", ())
+    return len(sheets) * len(asked)
+
+
 def any_numbers(random_source, sort, count):
     """Places up to the second past the last letter; right and wrong letters
     and limits."""
     if sort in ("B", "A"):
         return ()
+    if sort == "K":
+        return random_source.choice([
+            (1, 0), (1, 0), (2, 0), (2, 1), (2, 15), (3, 0), (1, 1), (2, 16),
+            (0, 99)])
     if sort == "M":
         return random_source.choice([
-            (1, 1, 0, 0), (2, 1, 2, 1), (2, 1000, 15, 15), (1, 2, 3, 0),
-            (3, 1, 0, 0), (1, 1, 0, 1), (9, 0, 99, 99)])
+            (1, 0), (1, 2), (2, 3), (1000, 15), (0, 0), (1001, 0), (1, 16),
+            (0, 99)])
     inside = random_source.randrange(count + 1)
     place = random_source.choice(
         [0, max(count - 1, 0), count, count + 1, inside, inside, inside])
@@ -626,7 +674,7 @@ def sorts_of_calls(random_source, preferences):
     while True:
         preferred = random_source.choice(preferences)
         for _ in range(random_source.choice([3, 10, 30, 70])):
-            other = random_source.choice("LIXMBA")
+            other = random_source.choice("LIXKMBA")
             yield random_source.choice([preferred, preferred, other])
 
 
@@ -653,20 +701,20 @@ def all_that_comes_of_calls():
               for number in numbers}
     wanted |= {(sort,) + two for sort, numbers in REFUSALS_OF_CALLS.items()
                for two in itertools.combinations(numbers, 2)}
-    wanted |= {(sort, sort) for sort in "LMIX"}
-    wanted |= {(sort, shown) for sort in "BA" for shown in "LMIX"}
-    return wanted | {(sort, "at", count) for sort in "LMIXBA"
+    wanted |= {(sort, sort) for sort in "LKMIX"}
+    wanted |= {(sort, shown) for sort in "BA" for shown in "LKMIX"}
+    return wanted | {(sort, "at", count) for sort in "LKMIXBA"
                      for count in (0, MOST_LETTERS)}
 
 
 def check_random_calls(random_source):
     """All maps and alphabets with few letters, and some with nearly 1,000."""
-    cases = [((length * letters[:1], map_name, name), "LIIIXXXMBBAA")
+    cases = [((length * letters[:1], map_name, name), "LIIIXXXKMBBAA")
              for map_name, name, letters, _ in WRITTEN for length in (0, 4)]
-    cases += [((length * b"A", map_name, name), "LLIIIMMBA")
+    cases += [((length * b"A", map_name, name), "LLIIIKM")
               for length, map_name, name in (
-                  (1000, b"I", b"*"), (1000, b"C", b"D"), (990, b"Y", b"*"),
-                  (960, b"I", b"O"), (940, b"C", b"N"))]
+                  (1000, b"I", b"*"), (1000, b"C", b"D"), (1000, b"I", b"N"),
+                  (990, b"Y", b"*"), (960, b"I", b"O"), (940, b"C", b"N"))]
     seen, rounds = set(), 400
     for case, preferences in cases:
         seen |= check_calls(random_source, case, preferences, rounds)
@@ -683,7 +731,7 @@ def run():
     count = check_every_small_string()
     count += check_random_strings(random_source, 600)
     file_count = check_random_files(random_source, 1500)
-    calls = check_random_calls(random_source)
+    calls = check_limit_calls() + check_random_calls(random_source)
     stops = check_all_stops(random_source, 100)
     print("self-check: %d spans, %d tilings, %d files, %d calls and %d stops "
           "agree, and all maps with all alphabets"

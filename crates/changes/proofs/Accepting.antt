@@ -1,4 +1,4 @@
--- What it takes to accept each kind of edit, and what lengths come of it. Assumes nothing.
+-- What it takes to accept each kind of edit, and what lengths and limits come of it. Assumes nothing.
 use mathlib.Core.Path.{_≡_, refl}
 use mathlib.Core.Bool.{true, false, not}
 use mathlib.Core.List.{List, [], _∷_}
@@ -8,17 +8,17 @@ use borrow.Author.Tests.{leb-true, leb-false, ltb-true, ltb-false, le-leb, lt-le
 use lib.Dec.{leb, ltb}
 use Rattle.terms.specs.Refusals.{firstFault}
 use Rattle.terms.specs.Alphabets.{isIn}
-use Rattle.terms.specs.Limits.{limitsFaults}
-use Rattle.terms.specs.declared.limits.Limits.{Limits as Limits·}
+use Rattle.terms.specs.Limits.{limitsFaults, withKind, withLengths}
+use Rattle.terms.specs.declared.limits.Limits.{Limits}
 use Rattle.terms.proofs.Below.{and-left, and-right, and-yes}
 use Rattle.terms.proofs.Passed.{passed, not-off}
-use Rattle.terms.proofs.Refusals.{Numbered, limits-numbered}
-use Rattle.changes.specs.Changes.{doneOf, backOf, lengthBy, placeFault, letterFault, editFaults, accepts, acceptsThen}
+use Rattle.terms.proofs.Refusals.{Numbered, kind-numbered, lengths-numbered, limits-parts, limits-whole}
+use Rattle.changes.specs.Changes.{doneOf, backOf, lengthBy, limitsBy, placeFault, letterFault, editFaults, accepts, acceptsThen}
 use Rattle.changes.specs.Work.{fits}
 use Rattle.changes.specs.declared.Change.{Change}
-use Rattle.changes.specs.declared.Change.the-variants.{Letter as ChangedLetter, Limits as ChangedLimits, PutIn as DidPutIn, TakeOut as DidTakeOut}
+use Rattle.changes.specs.declared.Change.the-variants.{Letter as ChangedLetter, Kind as DidKind, Lengths as DidLengths, PutIn as DidPutIn, TakeOut as DidTakeOut}
 use Rattle.changes.specs.declared.Edit.{Edit}
-use Rattle.changes.specs.declared.Edit.the-variants.{Letter, Limits, PutIn, TakeOut}
+use Rattle.changes.specs.declared.Edit.the-variants.{Letter, Kind, Lengths, PutIn, TakeOut}
 
 -- an edit is accepted where nothing of it is refused
 module _ (n : ℕ) (z : List ℕ) (e : Edit) where
@@ -38,7 +38,8 @@ place-numbered n p = (omega arith, tt)
 pub edit-numbered : (n : ℕ) (z : List ℕ) (e : Edit) → Numbered (editFaults n z e)
 unfolding editFaults placeFault letterFault
 edit-numbered n z (Letter p b) = (omega arith, (omega arith, tt))
-edit-numbered n z (Limits l) = limits-numbered l
+edit-numbered n z (Kind k d) = kind-numbered k d
+edit-numbered n z (Lengths m g) = lengths-numbered m g
 edit-numbered n z (PutIn p b) = (omega arith, (omega arith, (omega arith, tt)))
 edit-numbered n z (TakeOut p) = (omega arith, tt)
 
@@ -82,19 +83,30 @@ module _ (n : ℕ) (z : List ℕ) (p : ℕ) where
   unfolding editFaults placeFault firstFault
   take-out-accepted h = none-accepts n z (TakeOut p) (simp (lt-leb _ _ h))
 
-pub limits-accepted : (n : ℕ) (z : List ℕ) (l : Limits·) → firstFault (limitsFaults l) ≡ 0 → accepts n z (Limits l) ≡ true
-unfolding editFaults
-limits-accepted n z l f = none-accepts n z (Limits l) f
+-- of limits that pass, kind and d are accepted, and so are m and g; and after an accepted edit they still pass: what it names was tested, what it does not name is kept
+module _ (n : ℕ) (z : List ℕ) (l : Limits) (f : firstFault (limitsFaults l) ≡ 0) where
+  pub kind-accepted : accepts n z (Kind (l .kind) (l .d)) ≡ true
+  unfolding editFaults
+  kind-accepted = none-accepts n z (Kind (l .kind) (l .d)) (limits-parts l f .0)
 
-pub accepted-limits : (n : ℕ) (z : List ℕ) (l : Limits·) → accepts n z (Limits l) ≡ true → firstFault (limitsFaults l) ≡ 0
-unfolding editFaults
-accepted-limits n z l a = accepts-none n z (Limits l) a
+  pub lengths-accepted : accepts n z (Lengths (l .m) (l .g)) ≡ true
+  unfolding editFaults
+  lengths-accepted = none-accepts n z (Lengths (l .m) (l .g)) (limits-parts l f .1)
+
+  pub limits-pass : (e : Edit) → accepts n z e ≡ true → firstFault (limitsFaults (limitsBy e l)) ≡ 0
+  unfolding editFaults
+  limits-pass (Letter p b) a = f
+  limits-pass (Kind k d) a = limits-whole (withKind l k d) (accepts-none n z (Kind k d) a) (limits-parts l f .1)
+  limits-pass (Lengths m g) a = limits-whole (withLengths l m g) (limits-parts l f .0) (accepts-none n z (Lengths m g) a)
+  limits-pass (PutIn p b) a = f
+  limits-pass (TakeOut p) a = f
 
 -- an accepted edit has its place among the letters, and leaves at most 1,000
 pub accepts-fits : (n : ℕ) (z : List ℕ) (e : Edit) → accepts n z e ≡ true → fits n e ≡ true
 unfolding fits
 accepts-fits n z (Letter p b) a = lt-ltb p n (leb-false _ _ (letter-passed n z p b a .0))
-accepts-fits n z (Limits l) a = refl
+accepts-fits n z (Kind k d) a = refl
+accepts-fits n z (Lengths m g) a = refl
 accepts-fits n z (PutIn p b) a = let h = put-in-passed n z p b a in and-yes _ _ (le-leb _ _ (h .0)) (lt-ltb _ _ (h .1))
 accepts-fits n z (TakeOut p) a = lt-ltb p n (take-out-passed n z p a)
 
@@ -113,20 +125,23 @@ module _ (n p : ℕ) where
 
 pub length-few : (n : ℕ) (e : Edit) → n ≤ 1000 → fits n e ≡ true → lengthBy e n ≤ 1000
 length-few n (Letter p b) h f = h
-length-few n (Limits l) h f = h
+length-few n (Kind k d) h f = h
+length-few n (Lengths m g) h f = h
 length-few n (PutIn p b) h f = let k = fits-in n p b f in omega arith
 length-few n (TakeOut p) h f = omega arith
 
 -- a change made and taken back, or taken back and put again, comes to the length it began with
 pub length-back : (n : ℕ) (c : Change) → fits n (doneOf c) ≡ true → lengthBy (backOf c) (lengthBy (doneOf c) n) ≡ n
 length-back n (ChangedLetter p old new) f = refl
-length-back n (ChangedLimits old new) f = refl
+length-back n (DidKind k₀ d₀ k d) f = refl
+length-back n (DidLengths m₀ g₀ m g) f = refl
 length-back n (DidPutIn p b) f = omega arith
 length-back n (DidTakeOut p b) f = let h = fits-out n p f in omega arith
 
 pub length-again : (n : ℕ) (c : Change) → fits n (backOf c) ≡ true → lengthBy (doneOf c) (lengthBy (backOf c) n) ≡ n
 length-again n (ChangedLetter p old new) f = refl
-length-again n (ChangedLimits old new) f = refl
+length-again n (DidKind k₀ d₀ k d) f = refl
+length-again n (DidLengths m₀ g₀ m g) f = refl
 length-again n (DidPutIn p b) f = let h = fits-out n p f in omega arith
 length-again n (DidTakeOut p b) f = omega arith
 

@@ -2,6 +2,8 @@
 use terms::LETTERS;
 use terms::alphabets::is_in;
 use terms::limits::Limits;
+use terms::limits::kind_refusal;
+use terms::limits::lengths_refusal;
 ghost use mathlib.Core.Path.{_≡_};
 ghost use mathlib.Core.Bool.{true};
 ghost use Rattle.terms.specs.Refusals.{firstFault};
@@ -10,16 +12,38 @@ ghost use Rattle.changes.specs.Work.{fits};
 
 // A change, with what it replaced.
 pub enum Change {
-    Letter { place: usize, old: u8, new: u8 },
-    Limits { old: Limits, new: Limits },
-    PutIn { place: usize, byte: u8 },
-    TakeOut { place: usize, byte: u8 },
+    Letter {
+        place: usize,
+        old: u8,
+        new: u8,
+    },
+    Kind {
+        old_kind: usize,
+        old_d: usize,
+        kind: usize,
+        d: usize,
+    },
+    Lengths {
+        old_m: usize,
+        old_g: usize,
+        m: usize,
+        g: usize,
+    },
+    PutIn {
+        place: usize,
+        byte: u8,
+    },
+    TakeOut {
+        place: usize,
+        byte: u8,
+    },
 }
 
 // What a change does, or what takes it back.
 pub enum Edit {
     Letter { place: usize, byte: u8 },
-    Limits { limits: Limits },
+    Kind { kind: usize, d: usize },
+    Lengths { m: usize, g: usize },
     PutIn { place: usize, byte: u8 },
     TakeOut { place: usize },
 }
@@ -57,7 +81,8 @@ impl Edit {
                 }
                 letter_refusal(byte, alphabet)
             }
-            Edit::Limits { limits } => limits.refusal(),
+            Edit::Kind { kind, d } => kind_refusal(kind, d),
+            Edit::Lengths { m, g } => lengths_refusal(m, g),
             Edit::PutIn { place, byte } => {
                 if n < place {
                     return 6;
@@ -95,19 +120,31 @@ impl Edit {
     {
         match self {
             Edit::Letter { place: _, byte: _ } => n,
-            Edit::Limits { limits: _ } => n,
+            Edit::Kind { kind: _, d: _ } => n,
+            Edit::Lengths { m: _, g: _ } => n,
             Edit::PutIn { place: _, byte: _ } => n + 1,
             Edit::TakeOut { place: _ } => n - 1,
         }
     }
 
-    // The limits after the edit.
+    // The limits after the edit: what it does not name is kept.
     pub fn limits_after(self, limits: Limits) -> Limits
         ensures { λ r. ⌜ r ≡ limitsBy self limits ⌝ }
     {
         match self {
             Edit::Letter { place: _, byte: _ } => limits,
-            Edit::Limits { limits: asked } => asked,
+            Edit::Kind { kind, d } => Limits {
+                kind,
+                m: limits.m,
+                g: limits.g,
+                d,
+            },
+            Edit::Lengths { m, g } => Limits {
+                kind: limits.kind,
+                m,
+                g,
+                d: limits.d,
+            },
             Edit::PutIn { place: _, byte: _ } => limits,
             Edit::TakeOut { place: _ } => limits,
         }
@@ -121,7 +158,18 @@ impl Change {
     {
         match self {
             Change::Letter { place, old: _, new } => Edit::Letter { place, byte: new },
-            Change::Limits { old: _, new } => Edit::Limits { limits: new },
+            Change::Kind {
+                old_kind: _,
+                old_d: _,
+                kind,
+                d,
+            } => Edit::Kind { kind, d },
+            Change::Lengths {
+                old_m: _,
+                old_g: _,
+                m,
+                g,
+            } => Edit::Lengths { m, g },
             Change::PutIn { place, byte } => Edit::PutIn { place, byte },
             Change::TakeOut { place, byte: _ } => Edit::TakeOut { place },
         }
@@ -133,7 +181,21 @@ impl Change {
     {
         match self {
             Change::Letter { place, old, new: _ } => Edit::Letter { place, byte: old },
-            Change::Limits { old, new: _ } => Edit::Limits { limits: old },
+            Change::Kind {
+                old_kind,
+                old_d,
+                kind: _,
+                d: _,
+            } => Edit::Kind {
+                kind: old_kind,
+                d: old_d,
+            },
+            Change::Lengths {
+                old_m,
+                old_g,
+                m: _,
+                g: _,
+            } => Edit::Lengths { m: old_m, g: old_g },
             Change::PutIn { place, byte: _ } => Edit::TakeOut { place },
             Change::TakeOut { place, byte } => Edit::PutIn { place, byte },
         }

@@ -5,6 +5,7 @@ use Prim.Native.Nat.{ℕ, _<_}
 use native.Mathlib.Omega.{arith}
 use lib.ListN.{length, getD}
 use Rattle.terms.specs.Alphabets.{isIn}
+use Rattle.terms.proofs.Refusals.{opening-parts}
 use Rattle.changes.specs.Changes.{doneOf, backOf, lengthBy, accepts}
 use Rattle.changes.specs.declared.Change.{Change}
 use Rattle.changes.specs.declared.Edit.{Edit}
@@ -16,7 +17,6 @@ use Rattle.sheet.specs.Bounds.{textOf, inBounds}
 use Rattle.sheet.specs.Calls.{applied, changed}
 use Rattle.sheet.specs.declared.Sheet.{Sheet}
 use Rattle.sheet.proofs.Within.{opening, within, bounds}
-use Rattle.history.proofs.Writing.{opening-parts}
 use Rattle.history.proofs.Edits.{replacing-done, back-accepted}
 
 module _ (s : Sheet) (w : inBounds s ≡ true) (e : Edit) (a : accepts (s .n) (s .alphabet) e ≡ true) where

@@ -3,7 +3,7 @@ use mathlib.Core.Path.{refl, ap}
 use Rattle.terms.specs.Refusals.{firstFault}
 use Rattle.terms.specs.Maps.{everyBelow, ownInverse, mapFaults, plainMap}
 use Rattle.terms.specs.Alphabets.{allBytes, closedUnder, spelt, alphabetFaults}
-use Rattle.terms.specs.Limits.{wrongKind, tooManyErrors, outOfRange, limitsFaults}
+use Rattle.terms.specs.Limits.{wrongKind, tooManyErrors, kindOutOfRange, lengthsOutOfRange, outOfRange, limitsFaults}
 use Rattle.terms.specs.Texts.{stringFaults, textFaults, openingFaults}
 use Rattle.changes.specs.Changes.{placeFault, letterFault, editFaults}
 use Rattle.sheet.specs.Calls.{numberOf, answered}
@@ -11,7 +11,7 @@ use Rattle.history.specs.Example.{exampleText, exampleLimits, exampleCal
 use Rattle.history.proofs.Theorems.{demand-3}
 
 pub example-opens : ExampleOpens
-unfolding answered openingFaults textFaults stringFaults alphabetFaults allBytes closedUnder spelt mapFaults ownInverse everyBelow plainMap limitsFaults wrongKind outOfRange tooManyErrors firstFault
+unfolding answered openingFaults textFaults stringFaults alphabetFaults allBytes closedUnder spelt mapFaults ownInverse everyBelow plainMap limitsFaults wrongKind outOfRange lengthsOutOfRange kindOutOfRange tooManyErrors firstFault
 example-opens = refl
 
 pub example-runs : ExampleRuns

@@ -6,9 +6,9 @@ pub mod Writing
 pub mod Edits
 pub mod Bounded
 pub mod Invariant
-pub mod Faults
 pub mod Steps
 pub mod Openings
 pub mod Theorems
 pub mod Example
 pub mod Asked
+pub mod LimitsCalls

@@ -9,7 +9,7 @@ use lib.ListN.{length-replicate}
 use Rattle.terms.specs.Refusals.{firstFault}
 use Rattle.terms.specs.Maps.{everyBelow, plainMap}
 use Rattle.terms.specs.Alphabets.{allBytes, closedUnder, spelt, alphabetFaults}
-use Rattle.terms.specs.Limits.{limitsFaults, wrongKind, outOfRange, tooManyErrors}
+use Rattle.terms.specs.Limits.{limitsFaults, wrongKind, outOfRange, lengthsOutOfRange, kindOutOfRange, tooManyErrors}
 use Rattle.terms.specs.Texts.{Text, textAll, size, openingFaults}
 use Rattle.terms.specs.declared.limits.Limits.{Limits}
 use Rattle.terms.proofs.Supplied.{plain-passes}
@@ -25,13 +25,12 @@ use Rattle.sheet.specs.Question.{SheetReply}
 use Rattle.sheet.specs.declared.Said.the-variants.{Opened}
 use Rattle.sheet.specs.declared.Sheet.{Sheet}
 use Rattle.sheet.proofs.Within.{within}
-use Rattle.sheet.proofs.Replying.{answer-yes}
+use Rattle.sheet.proofs.Replying.{answer-yes, number-is}
 use Rattle.sheet.proofs.Asked.{opening-passes, content-opens}
 use Rattle.history.specs.History.{Content, made}
 use Rattle.history.specs.Runs.{contentOf, standingOf, FreshReply}
 use Rattle.history.proofs.Padding.{padded-take, content-is}
 use Rattle.history.proofs.Invariant.{Invariant}
-use Rattle.history.proofs.Faults.{number-is}
 
 module _ (x : Text) (l : Limits) where
   abbrev opening : Content
@@ -92,5 +91,5 @@ all-closed = refl
 
 -- the blank sheet's opening has no fault
 pub blank-passes : firstFault (openingFaults (textAll [] plainMap) (record { kind = 1; m = 1; g = 0; d = 0 })) ≡ 0
-unfolding firstFault limitsFaults wrongKind outOfRange tooManyErrors
+unfolding firstFault limitsFaults wrongKind outOfRange lengthsOutOfRange kindOutOfRange tooManyErrors
 blank-passes = opening-passes _ _ (omega arith) plain-passes all-closed refl

@@ -1,7 +1,7 @@
 -- One request on a sheet and on its history: the same answer, and the history stays the one read off the sheet. Assumes nothing.
 use mathlib.Core.Path.{_≡_, refl, sym, ap, subst, _∙_}
 use mathlib.Core.Bool.{Bool, true, false, cond}
-use Prim.Native.Nat.{ℕ, zero, suc, _-_, _≤_, _<_}
+use Prim.Native.Nat.{ℕ, zero, suc, _-_, _<_}
 use native.Mathlib.Numerals.{add-one}
 use native.Mathlib.Omega.{arith}
 use borrow.Author.Tests.{eqb-true}
@@ -11,7 +11,6 @@ use Rattle.terms.specs.Refusals.{firstFault}
 use Rattle.changes.specs.Changes.{doneOf, backOf, accepts}
 use Rattle.changes.specs.declared.Change.{Change}
 use Rattle.changes.specs.declared.Edit.{Edit}
-use Rattle.changes.specs.declared.Edit.the-variants.{Letter as EditLetter, Limits as EditLimits, PutIn as EditPutIn, TakeOut as EditTakeOut}
 use Rattle.kept.specs.Lists.{keptAt}
 use Rattle.kept.proofs.Popping.{pop-none, pop-some}
 use Rattle.kept.proofs.Moving.{newest-back, kept-back, next-done, kept-again}
@@ -22,7 +21,7 @@ use Rattle.sheet.specs.declared.Said.{Said}
 use Rattle.sheet.specs.declared.Sheet.{Sheet}
 use Rattle.sheet.proofs.Within.{bounds}
 use Rattle.sheet.proofs.Replying.{answer-no, answer-yes, change-sound, back-number, again-number}
-use Rattle.history.specs.History.{Content, History, Request, letter, letterIn, letterOut, limits, takeBack, putAgain, make, back, made, moved, accept, refuse, faultsOf, decide, reckon}
+use Rattle.history.specs.History.{Content, History, Request, change, takeBack, putAgain, make, back, made, moved, accept, refuse, faultsOf, decide, reckon}
 use Rattle.history.specs.Runs.{standingFrom, standingOf, perform}
 use Rattle.history.proofs.Lists.{standing-length}
 use Rattle.history.proofs.Edits.{make-back}
@@ -95,7 +94,7 @@ module _ {o : Content} {s : Sheet} (S : Invariant o s) where
     unfolding changeFaults firstFault
     same-number = simp (S .bounds) (rw (S .holds .n, S .holds .alphabet, standing-is))
 
-    by-test : (k : ℕ) (b : Bool) → (b ≡ true → (s .n ≤ 1000) × (accepts (s .n) (s .alphabet) e ≡ true) × (s .standing < 64))
+    by-test : (k : ℕ) (b : Bool) → (b ≡ true → (inBounds s ≡ true) × (accepts (s .n) (s .alphabet) e ≡ true) × (s .standing < 64))
         → Agrees o (cond b (changed s e) (refusing s k)) (cond b (accept h e) (refuse h k))
     by-test k true a = changed-agrees S e (a refl .1) (a refl .2)
     by-test k false a = (S, refl)
@@ -106,9 +105,6 @@ module _ {o : Content} {s : Sheet} (S : Invariant o s) where
         rw (sym same-number) (by-test (firstFault (changeFaults s e)) (eqb (firstFault (changeFaults s e)) 0) (λ t. change-sound s e (sym (eqb-true _ _ t))))
 
   pub step : (q : Request) → Agrees o (perform s q) (reckon (historyOf o s) q)
-  step (letter p b) = decided (EditLetter p b)
-  step (letterIn p b) = decided (EditPutIn p b)
-  step (letterOut p) = decided (EditTakeOut p)
-  step (limits l) = decided (EditLimits l)
+  step (change e) = decided e
   step takeBack = back-step o s (s .standing) (s .taken) S
   step putAgain = again-step o s (s .standing) (s .taken) S

@@ -4,6 +4,7 @@ use mathlib.Core.Bool.{Bool, true, false, cond}
 use mathlib.Core.List.{List, [], _∷_, _++_}
 use Prim.Native.Nat.{ℕ, zero, suc, _+_, _≤_}
 use native.Mathlib.Omega.{arith}
+use borrow.Author.Tests.{eqb-false}
 use lib.Dec.{eqb}
 use lib.ListN.{length}
 use Rattle.terms.specs.Refusals.{firstFault}
@@ -12,24 +13,23 @@ use Rattle.terms.specs.declared.limits.Limits.{Limits}
 use Rattle.changes.specs.Changes.{doneOf, backOf}
 use Rattle.changes.specs.declared.Change.{Change}
 use Rattle.changes.specs.declared.Edit.{Edit}
-use Rattle.changes.specs.declared.Edit.the-variants.{Letter as EditLetter, Limits as EditLimits, PutIn as EditPutIn, TakeOut as EditTakeOut}
+use Rattle.changes.specs.declared.Edit.the-variants.{Letter as EditLetter, Kind as EditKind, Lengths as EditLengths, PutIn as EditPutIn, TakeOut as EditTakeOut}
 use Rattle.kept.specs.Lists.{keptAt}
-use Rattle.sheet.specs.Calls.{numberOf, refusing, answered, applied, takeBackCall, putAgainCall, opened, blankSheet, openCall}
+use Rattle.sheet.specs.Calls.{numberOf, refusing, answered, applied, changeCall, takeBackCall, putAgainCall, opened, blankSheet, openCall}
 use Rattle.sheet.specs.declared.Reply.{Reply}
 use Rattle.sheet.specs.declared.Said.{Said}
 use Rattle.sheet.specs.declared.Said.the-variants.{Opened}
 use Rattle.sheet.specs.declared.Sheet.{Sheet}
 use Rattle.sheet.proofs.Within.{bounds}
-use Rattle.sheet.proofs.Replying.{answer-no, applied-accepted, changed-accepted}
-use Rattle.history.specs.History.{Content, History, Request, letter, letterIn, letterOut, limits, takeBack, putAgain, made, back, sayBack, start, accept, decide, reckon}
+use Rattle.sheet.proofs.Replying.{answer-no, number-is, applied-accepted, changed-accepted}
+use Rattle.history.specs.History.{Content, History, change, takeBack, putAgain, made, back, sayBack, start, accept, refuse, faultsOf, decide, reckon}
 use Rattle.history.specs.Runs.{contentOf, standingOf, takenOf, perform, Exchange, requested, asked, Run, after, Faithful}
-use Rattle.history.specs.Demand3.{Came, Demand3, NeverMore, AlphabetStays, RefusedStays, BackAndAgain, Changes, ChangeAndBack}
+use Rattle.history.specs.Demand3.{Came, Demand3, NeverMore, AlphabetStays, RefusedStays, BackAndAgain, ChangeAndBack}
 use Rattle.history.specs.Openings.{BlankToo, OpensAnew}
 use Rattle.history.proofs.Lists.{standing-length}
 use Rattle.history.proofs.Padding.{content-is}
 use Rattle.history.proofs.Edits.{make-keeps}
 use Rattle.history.proofs.Invariant.{historyOf, Invariant, invariant-same}
-use Rattle.history.proofs.Faults.{number-is, decide-accepts}
 use Rattle.history.proofs.Steps.{counting, back-refused, back-made, again-made, step}
 use Rattle.history.proofs.Openings.{opens, number-of-opening, opened-invariant, fresh-reply, blank-passes}
 
@@ -96,10 +96,7 @@ stays : (fs : List (ℕ × Bool)) (s : Sheet) (r : Reply) → numberOf (r .said)
 stays fs s r z n = ap (λ (a : Reply). a .sheet) (answer-no fs s r (firstFault fs) refl (λ e. n (number-is fs s r z ∙ e)))
 
 pub refused-stays : RefusedStays
-refused-stays s (letter p b) = stays _ s _ (changed-accepted s (EditLetter p b))
-refused-stays s (letterIn p b) = stays _ s _ (changed-accepted s (EditPutIn p b))
-refused-stays s (letterOut p) = stays _ s _ (changed-accepted s (EditTakeOut p))
-refused-stays s (limits l) = stays _ s _ (changed-accepted s (EditLimits l))
+refused-stays s (change e) = stays _ s _ (changed-accepted s e)
 refused-stays s takeBack = stays _ s _ (applied-accepted s _ _ _)
 refused-stays s putAgain = stays _ s _ (applied-accepted s _ _ _)
 
@@ -147,35 +144,35 @@ back-and-again x l xs s c =
 -- What is said of an edit is no refusal.
 says-none : (e : Edit) (was is : Content) (k : ℕ) → numberOf (sayBack e was is k) ≡ 0
 says-none (EditLetter p b) was is k = refl
-says-none (EditLimits l) was is k = refl
+says-none (EditKind k d) was is n = refl
+says-none (EditLengths m g) was is k = refl
 says-none (EditPutIn p b) was is k = refl
 says-none (EditTakeOut p) was is k = refl
 
--- A request for a change is reckoned by that change.
-asks-for : (h : History) (q : Request) (e : Edit) → Changes q e → reckon h q ≡ decide h e
-asks-for h (letter p b) e k = ap (decide h) (sym k)
-asks-for h (letterIn p b) e k = ap (decide h) (sym k)
-asks-for h (letterOut p) e k = ap (decide h) (sym k)
-asks-for h (limits l) e k = ap (decide h) (sym k)
-asks-for h takeBack e k = absurd k
-asks-for h putAgain e k = absurd k
+-- A change that the history says 0 of is accepted.
+decide-accepts : (h : History) (e : Edit) → numberOf (decide h e .1) ≡ 0 → decide h e ≡ accept h e
+decide-accepts h e = go (eqb (firstFault (faultsOf h e)) 0) refl
+  where
+    go : (b : Bool) → eqb (firstFault (faultsOf h e)) 0 ≡ b → numberOf (cond b (accept h e) (refuse h (firstFault (faultsOf h e))) .1) ≡ 0
+        → cond b (accept h e) (refuse h (firstFault (faultsOf h e))) ≡ accept h e
+    go true q z = refl
+    go false q z = absurd (eqb-false _ _ q z)
 
 -- A change and take-back, of whatever kind.
-module _ {o : Content} {s : Sheet} (S : Invariant o s) where
-  undone : (q : Request) (e : Edit) → reckon (historyOf o s) q ≡ decide (historyOf o s) e → numberOf (perform s q .said) ≡ 0
-      → (numberOf (takeBackCall (perform s q .sheet) .said) ≡ 0)
-      × (contentOf (takeBackCall (perform s q .sheet) .sheet) ≡ contentOf s)
-      × (standingOf (takeBackCall (perform s q .sheet) .sheet) ≡ standingOf s)
-      × (takenOf (takeBackCall (perform s q .sheet) .sheet) ≡ e ∷ [])
-  undone q e d z =
+module _ {o : Content} {s : Sheet} (S : Invariant o s) (e : Edit) where
+  abbrev again : Reply
+  again = takeBackCall (changeCall s e .sheet)
+
+  undone : numberOf (changeCall s e .said) ≡ 0
+      → (numberOf (again .said) ≡ 0) × (contentOf (again .sheet) ≡ contentOf s) × (standingOf (again .sheet) ≡ standingOf s) × (takenOf (again .sheet) ≡ e ∷ [])
+  undone z =
       let h : History = historyOf o s in
-      let A = step S q in
+      let A = step S (change e) in
       let B = step (A .0) takeBack in
-      let n : numberOf (decide h e .1) ≡ 0 = ap (λ (y : History × Said). numberOf (y .1)) (sym d ∙ A .1) ∙ z in
-      let a : historyOf o (perform s q .sheet) ≡ accept h e .0 = ap (λ (y : History × Said). y .0) (sym (A .1) ∙ d ∙ decide-accepts h e n) in
-      let b : (historyOf o (takeBackCall (perform s q .sheet) .sheet), takeBackCall (perform s q .sheet) .said) ≡ reckon (accept h e .0) takeBack
-      = sym (B .1) ∙ ap (λ (y : History). reckon y takeBack) a in
-      let t : standingOf (takeBackCall (perform s q .sheet) .sheet) ≡ standingOf s = ap (λ (y : History × Said). y .0 .standing) b in (
+      let n : numberOf (decide h e .1) ≡ 0 = ap (λ (y : History × Said). numberOf (y .1)) (A .1) ∙ z in
+      let a : historyOf o (changeCall s e .sheet) ≡ accept h e .0 = ap (λ (y : History × Said). y .0) (sym (A .1) ∙ decide-accepts h e n) in
+      let b : (historyOf o (again .sheet), again .said) ≡ reckon (accept h e .0) takeBack = sym (B .1) ∙ ap (λ (y : History). reckon y takeBack) a in
+      let t : standingOf (again .sheet) ≡ standingOf s = ap (λ (y : History × Said). y .0 .standing) b in (
         ap (λ (y : History × Said). numberOf (y .1)) b ∙ says-none (back (made o (standingOf s)) e) _ _ _,
         content-is (B .0 .holds) ∙ ap (made o) t ∙ sym (content-is (S .holds)),
         t,
@@ -183,4 +180,4 @@ module _ {o : Content} {s : Sheet} (S : Invariant o s) where
       )
 
 pub change-and-back : ChangeAndBack
-change-and-back x l xs s c q e k = let S = came-ends x l xs s c .invariant in undone S q e (asks-for (historyOf (record { text = x; limits = l }) s) q e k)
+change-and-back x l xs s c e = undone (came-ends x l xs s c .invariant) e

@@ -11,15 +11,10 @@ use Rattle.terms.specs.Alphabets.{alphabetFaults}
 use Rattle.terms.specs.Limits.{limitsFaults}
 use Rattle.terms.specs.Texts.{Text, text, size, stringFaults, textFaults, openingFaults}
 use Rattle.terms.specs.declared.limits.Limits.{Limits}
-use Rattle.terms.proofs.Refusals.{fault-none, string-numbered, text-numbered, text-passes}
+use Rattle.terms.proofs.Refusals.{fault-none, string-numbered, text-passes, opening-parts}
 use Rattle.terms.proofs.Passed.{passed}
 use Rattle.sheet.proofs.Asked.{opening-passes}
 use Rattle.history.proofs.Spelling.{Spells, flagged-by}
-
--- what an opening that is accepted passes: the text's refusals, and the limits'
-pub opening-parts : (x : Text) (l : Limits) → firstFault (openingFaults x l) ≡ 0 → (firstFault (textFaults x) ≡ 0) × (firstFault (limitsFaults l) ≡ 0)
-unfolding openingFaults
-opening-parts x l e = fault-none (textFaults x) (limitsFaults l) (text-numbered x) e
 
 pub limits-open : (x : Text) (l l′ : Limits) → firstFault (openingFaults x l) ≡ 0 → firstFault (limitsFaults l′) ≡ 0 → firstFault (openingFaults x l′) ≡ 0
 limits-open x l l′ e h = sym (text-passes x l′ 0 0 (sym (opening-parts x l e .0)) refl (sym h))

@@ -9,11 +9,10 @@ use Rattle.terms.specs.Sizes.{mostLetters, mostChanges}
 use Rattle.terms.specs.Texts.{Text, size}
 use Rattle.terms.specs.declared.limits.Limits.{Limits}
 use Rattle.changes.specs.declared.Edit.{Edit}
-use Rattle.changes.specs.declared.Edit.the-variants.{Letter as EditLetter, Limits as EditLimits, PutIn as EditPutIn, TakeOut as EditTakeOut}
 use Rattle.sheet.specs.Bounds.{inBounds}
-use Rattle.sheet.specs.Calls.{numberOf, takeBackCall, putAgainCall, openCall}
+use Rattle.sheet.specs.Calls.{numberOf, changeCall, takeBackCall, putAgainCall, openCall}
 use Rattle.sheet.specs.declared.Sheet.{Sheet}
-use Rattle.history.specs.History.{History, Request, letter, letterIn, letterOut, limits, start, current}
+use Rattle.history.specs.History.{History, Request, start, current}
 use Rattle.history.specs.Runs.{contentOf, standingOf, takenOf, perform, Exchange, Run, after, Faithful}
 
 -- A sheet that a run of calls left, beside the history reckoned from those calls.
@@ -64,24 +63,14 @@ BackAndAgain =
     → numberOf (takeBackCall s .said) ≡ 0
     → (numberOf (putAgainCall (takeBackCall s .sheet) .said) ≡ 0) × (putAgainCall (takeBackCall s .sheet) .sheet ≡ s)
 
--- A request that asks for a change, and the change that it asks for.
-abbrev pub Changes : Request → Edit → Type 0
-Changes (letter p b) e = e ≡ EditLetter p b
-Changes (letterIn p b) e = e ≡ EditPutIn p b
-Changes (letterOut p) e = e ≡ EditTakeOut p
-Changes (limits l) e = e ≡ EditLimits l
-Changes Request.takeBack e = ⊥
-Changes Request.putAgain e = ⊥
-
--- An accepted change followed by take-back, which is accepted, restores letters, limits and standing list only: that change is then all that is taken back.
+-- An accepted change, of any kind, followed by take-back, which is accepted, restores letters, limits and standing list only: that change is then all that is taken back.
 abbrev pub ChangeAndBack : Type 0
 ChangeAndBack =
     (x : Text) (l : Limits) (calls : List Exchange) (s : Sheet)
     → Came x l calls s
-    → (q : Request) (e : Edit)
-    → Changes q e
-    → numberOf (perform s q .said) ≡ 0
-    → (numberOf (takeBackCall (perform s q .sheet) .said) ≡ 0)
-    × (contentOf (takeBackCall (perform s q .sheet) .sheet) ≡ contentOf s)
-    × (standingOf (takeBackCall (perform s q .sheet) .sheet) ≡ standingOf s)
-    × (takenOf (takeBackCall (perform s q .sheet) .sheet) ≡ e ∷ [])
+    → (e : Edit)
+    → numberOf (changeCall s e .said) ≡ 0
+    → (numberOf (takeBackCall (changeCall s e .sheet) .said) ≡ 0)
+    × (contentOf (takeBackCall (changeCall s e .sheet) .sheet) ≡ contentOf s)
+    × (standingOf (takeBackCall (changeCall s e .sheet) .sheet) ≡ standingOf s)
+    × (takenOf (takeBackCall (changeCall s e .sheet) .sheet) ≡ e ∷ [])

@@ -4,11 +4,12 @@ use mathlib.Core.List.{List, [], _∷_}
 use Rattle.terms.specs.Maps.{plainMap}
 use Rattle.terms.specs.Texts.{Text, textAll}
 use Rattle.terms.specs.declared.limits.Limits.{Limits}
+use Rattle.changes.specs.declared.Edit.the-variants.{Letter}
 use Rattle.sheet.specs.Calls.{openCall}
 use Rattle.sheet.specs.declared.Said.{Said}
 use Rattle.sheet.specs.declared.Said.the-variants.{Letter as SaidLetter, Opened, No}
 use Rattle.sheet.specs.declared.Sheet.{Sheet}
-use Rattle.history.specs.History.{letter, takeBack, putAgain}
+use Rattle.history.specs.History.{change, takeBack, putAgain}
 use Rattle.history.specs.Runs.{Exchange, requested, Run}
 
 abbrev pub exampleText : Text
@@ -24,12 +25,12 @@ ExampleOpens = openCall exampleText exampleLimits .said ≡ Opened 7
 -- T at place 6, take-back, put-again, take-back, take-back once too often, T at a place past the end; with what is said to each.
 abbrev pub exampleCalls : Said → Said → Said → Said → Said → Said → List Exchange
 exampleCalls a b c d e f =
-    requested (letter 6 84) a
+    requested (change (Letter 6 84)) a
     ∷ requested takeBack b
     ∷ requested putAgain c
     ∷ requested takeBack d
     ∷ requested takeBack e
-    ∷ requested (letter 7 84) f
+    ∷ requested (change (Letter 7 84)) f
     ∷ []
 
 -- Every run of these calls says place, letter replaced, letter now there and number standing, four times; then refusals 8 and 6.

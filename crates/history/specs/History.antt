@@ -6,31 +6,34 @@ use lib.Dec.{eqb, leb}
 use lib.ListN.{getD, set, length}
 use Rattle.terms.specs.Sizes.{mostChanges}
 use Rattle.terms.specs.Refusals.{firstFault}
+use Rattle.terms.specs.Limits.{withKind, withLengths}
 use Rattle.terms.specs.Texts.{Text, text, size}
 use Rattle.terms.specs.declared.limits.Limits.{Limits}
 use Rattle.changes.specs.Changes.{editFaults}
 use Rattle.changes.specs.declared.Edit.{Edit}
-use Rattle.changes.specs.declared.Edit.the-variants.{Letter as EditLetter, Limits as EditLimits, PutIn as EditPutIn, TakeOut as EditTakeOut}
+use Rattle.changes.specs.declared.Edit.the-variants.{Letter as EditLetter, Kind as EditKind, Lengths as EditLengths, PutIn as EditPutIn, TakeOut as EditTakeOut}
 use Rattle.shifts.specs.Shifts.{putIn, takeOut}
 use Rattle.sheet.specs.declared.Said.{Said}
-use Rattle.sheet.specs.declared.Said.the-variants.{Letter as SaidLetter, Limits as SaidLimits, PutIn as SaidPutIn, TakeOut as SaidTakeOut, No}
+use Rattle.sheet.specs.declared.Said.the-variants.{Letter as SaidLetter, Kind as SaidKind, Lengths as SaidLengths, PutIn as SaidPutIn, TakeOut as SaidTakeOut, No}
 
 -- What a question is asked of: letters with their map and alphabet, and limits.
 pub record Content : Type 0 where
   pub text : Text
   pub limits : Limits
 
--- An edit made.
+-- An edit made: what it does not name is kept.
 abbrev pub make : Edit → Content → Content
 make (EditLetter p b) c = record { text = text (set (c .text .letters) p b) (c .text .map) (c .text .alphabet); limits = c .limits }
-make (EditLimits l) c = record { text = c .text; limits = l }
+make (EditKind k d) c = record { text = c .text; limits = withKind (c .limits) k d }
+make (EditLengths m g) c = record { text = c .text; limits = withLengths (c .limits) m g }
 make (EditPutIn p b) c = record { text = text (putIn (c .text .letters) p b) (c .text .map) (c .text .alphabet); limits = c .limits }
 make (EditTakeOut p) c = record { text = text (takeOut (c .text .letters) p) (c .text .map) (c .text .alphabet); limits = c .limits }
 
 -- The edit that takes e back, where e was made of c: it restores what was there.
 abbrev pub back : Content → Edit → Edit
 back c (EditLetter p b) = EditLetter p (getD (c .text .letters) p 0)
-back c (EditLimits l) = EditLimits (c .limits)
+back c (EditKind k d) = EditKind (c .limits .kind) (c .limits .d)
+back c (EditLengths m g) = EditLengths (c .limits .m) (c .limits .g)
 back c (EditPutIn p b) = EditTakeOut p
 back c (EditTakeOut p) = EditPutIn p (getD (c .text .letters) p 0)
 
@@ -39,11 +42,12 @@ abbrev pub made : Content → List Edit → Content
 made o [] = o
 made o (e ∷ es) = make e (made o es)
 
--- What is said back of an edit that led from `was` to `is`: place, letter replaced, letter now there; or the limits now in force; or place, letter put
--- in or taken out, number of letters; and k standing.
+-- What is said back of an edit that led from `was` to `is`: place, letter replaced, letter now there; or all four limits now in force; or place, letter
+-- put in or taken out, number of letters; and k standing.
 abbrev pub sayBack : Edit → Content → Content → ℕ → Said
 sayBack (EditLetter p b) was is k = SaidLetter p (getD (was .text .letters) p 0) (getD (is .text .letters) p 0) k
-sayBack (EditLimits l) was is k = SaidLimits (is .limits) k
+sayBack (EditKind kind d) was is k = SaidKind (is .limits) k
+sayBack (EditLengths m g) was is k = SaidLengths (is .limits) k
 sayBack (EditPutIn p b) was is k = SaidPutIn p (getD (is .text .letters) p 0) (size (is .text)) k
 sayBack (EditTakeOut p) was is k = SaidTakeOut p (getD (was .text .letters) p 0) (size (is .text)) k
 
@@ -61,11 +65,9 @@ start x l = record { opening = record { text = x; limits = l }; standing = []; t
 abbrev pub current : History → Content
 current h = made (h .opening) (h .standing)
 
--- A call that asks for a change, or moves one.
+-- A call that asks for a change, of any kind, or moves one.
 pub data Request : Type 0 where
-  letter letterIn : ℕ → ℕ → Request
-  letterOut : ℕ → Request
-  limits : Limits → Request
+  change : Edit → Request
   takeBack putAgain : Request
 
 -- From a history to the next by the edit e: what is said compares the two.
@@ -103,9 +105,6 @@ againFrom h (e ∷ es) = moved h e (record { opening = h .opening; standing = e 
 
 -- What a request makes of the history, and what is said back.
 abbrev pub reckon : History → Request → History × Said
-reckon h (letter p b) = decide h (EditLetter p b)
-reckon h (letterIn p b) = decide h (EditPutIn p b)
-reckon h (letterOut p) = decide h (EditTakeOut p)
-reckon h (limits l) = decide h (EditLimits l)
+reckon h (change e) = decide h e
 reckon h takeBack = backFrom h (h .standing)
 reckon h putAgain = againFrom h (h .taken)

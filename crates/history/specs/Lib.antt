@@ -1,6 +1,7 @@
--- Demand 3: the history, runs of calls, and what holds of them.
+-- Demand 3: the history, runs of calls, what holds of them, and of the limits calls.
 pub mod History
 pub mod Runs
 pub mod Demand3
 pub mod Openings
+pub mod LimitsCalls
 pub mod Example

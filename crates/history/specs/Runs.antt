@@ -9,12 +9,12 @@ use Rattle.kept.specs.declared.Kept.{Kept}
 use Rattle.questions.specs.Tiling.{TilingReply}
 use Rattle.questions.specs.declared.Answer.{Answer}
 use Rattle.sheet.specs.Bounds.{textOf}
-use Rattle.sheet.specs.Calls.{numberOf, letterCall, putInCall, takeOutCall, limitsCall, takeBackCall, putAgainCall, openCall}
+use Rattle.sheet.specs.Calls.{numberOf, changeCall, takeBackCall, putAgainCall, openCall}
 use Rattle.sheet.specs.Question.{SheetReply}
 use Rattle.sheet.specs.declared.Said.{Said}
 use Rattle.sheet.specs.declared.Sheet.{Sheet}
 use Rattle.sheet.specs.declared.Reply.{Reply}
-use Rattle.history.specs.History.{Content, History, Request, letter, letterIn, letterOut, limits, takeBack, putAgain, current, reckon}
+use Rattle.history.specs.History.{Content, History, Request, change, takeBack, putAgain, current, reckon}
 
 -- A sheet's letters, map, alphabet and limits.
 abbrev pub contentOf : Sheet → Content
@@ -37,10 +37,7 @@ takenOf s = takenFrom (s .kept) (s .standing) (s .taken)
 
 -- What a request does on a sheet, by the promises of the calls.
 abbrev pub perform : Sheet → Request → Reply
-perform s (letter p b) = letterCall s p b
-perform s (letterIn p b) = putInCall s p b
-perform s (letterOut p) = takeOutCall s p
-perform s (limits l) = limitsCall s l
+perform s (change e) = changeCall s e
 perform s takeBack = takeBackCall s
 perform s putAgain = putAgainCall s
 

@@ -9,16 +9,18 @@ use borrow.Author.Tests.{leb-true, eqb-true, lt-ltb, eq-eqb, le-leb}
 use lib.Dec.{leb, eqb}
 use lib.ListN.{length, drop, drop-of-length-le, length-drop}
 use Rattle.terms.specs.declared.limits.Limits.{Limits}
-use Rattle.changes.specs.declared.Edit.the-variants.{Letter, Limits as NewLimits, PutIn, TakeOut}
+use Rattle.changes.specs.declared.Edit.the-variants.{Letter, Kind, Lengths, PutIn, TakeOut}
 use Rattle.printing.specs.Printing.{fields}
 use Rattle.lines.specs.declared.Line.{Line}
 use Rattle.lines.specs.declared.Line.the-variants.{Open, Change, TakeBack, PutAgain, Question, Unknown}
+use Rattle.lines.specs.declared.Two.{Two}
+use Rattle.lines.specs.declared.Two.the-variants.{Both, NotBoth}
 use Rattle.lines.specs.declared.Placed.{Placed}
 use Rattle.lines.specs.declared.Placed.the-variants.{At, Nowhere}
 use Rattle.lines.specs.declared.Four.{Four}
 use Rattle.lines.specs.declared.Four.the-variants.{Are, Missing}
 use Rattle.lines.specs.Lines.{Asked, opening, change, takeBack, putAgain, question, limitsNumbers, mapLetter, mostBytes, Asks, Reads, OneReading}
-use Rattle.lines.specs.Work.{stands, withFour, fourAfter, ending, placedOf, withPlaced, letterLine, inLine, outLine, limitsLine, stringAfter, openLine, lineOf}
+use Rattle.lines.specs.Work.{stands, withFour, fourAfter, ending, twoOf, withTwo, placedOf, withPlaced, letterLine, inLine, outLine, kindLine, lengthsLine, stringAfter, openLine, lineOf}
 use Rattle.lines.proofs.Standing.{by-test, stands-in, stands-drop, stands-yes, stands-no}
 use Rattle.lines.proofs.Numerals.{on}
 use Rattle.lines.proofs.Numbers.{no-digit, nothing-digit, Stand, none-stand, one-stands, Fours, going, four-sound, after-complete, four-complete}
@@ -44,6 +46,39 @@ module _ (xs : List ℕ) (short : length xs ≤ mostBytes) where
   lone b line then h =
       by-test Sounds (eqb 1 (length xs)) _ _ (λ q. then (whole b [] 1 h (none-stand xs 1 (omega (arith, stands-in xs 0 b h))) (eqb-true 1 (length xs) q))) (λ _. tt)
 
+  -- two numbers behind the line's letter
+  abbrev Twos : Two → Type 0
+  Twos NotBoth = Unit {0}
+  Twos (Both a b) = (a < 10000) × (b < 10000) × ((lead : ℕ) → stands xs 0 lead ≡ true → xs ≡ lead ∷ fields (a ∷ b ∷ []))
+
+  two-sound : Twos (twoOf xs)
+  unfolding twoOf
+  two-sound =
+      going xs Twos 1 _ _ tt (λ a i h₁ l₁ e₁.
+      going xs Twos i _ _ tt (λ b e h₂ l₂ e₂.
+      by-test Twos (eqb e (length xs)) _ _ (λ q. (
+        h₁,
+        h₂,
+        λ lead h. whole lead (a ∷ b ∷ []) e h (one-stands xs 1 a i e _ h₁ e₁ (one-stands xs i b e e _ h₂ e₂ (none-stand xs e l₂))) (eqb-true e (length xs) q),
+      )) (λ _. tt)))
+
+  -- what goes on with them, of whatever it makes
+  with-two : {A : Type 0} (P : A → Type 0) (none : A) (then : ℕ → ℕ → A) → P none
+      → ((a b : ℕ) → a < 10000 → b < 10000 → ((lead : ℕ) → stands xs 0 lead ≡ true → xs ≡ lead ∷ fields (a ∷ b ∷ [])) → P (then a b)) → P (withTwo (twoOf xs) none then)
+  with-two P none then p q = go (twoOf xs) two-sound
+    where
+      go : (r : Two) → Twos r → P (withTwo r none then)
+      go NotBoth h = p
+      go (Both a b) h = q a b (h .0) (h .1) (h .2)
+
+  kind-sound : stands xs 0 75 ≡ true → Sounds (kindLine xs)
+  unfolding kindLine
+  kind-sound h = with-two Sounds _ _ tt (λ k d p q f. record { short = short; proper = (p, (q, tt)); form = f 75 h })
+
+  lengths-sound : stands xs 0 77 ≡ true → Sounds (lengthsLine xs)
+  unfolding lengthsLine
+  lengths-sound h = with-two Sounds _ _ tt (λ m g p q f. record { short = short; proper = (p, (q, tt)); form = f 77 h })
+
   -- a place and a byte behind the line's letter
   abbrev Places : Placed → Type 0
   Places Nowhere = Unit {0}
@@ -51,15 +86,7 @@ module _ (xs : List ℕ) (short : length xs ≤ mostBytes) where
 
   placed-sound : Places (placedOf xs)
   unfolding placedOf
-  placed-sound =
-      going xs Places 1 _ _ tt (λ p a h₁ l₁ e₁.
-      going xs Places a _ _ tt (λ b e h₂ l₂ e₂.
-      by-test Places (eqb e (length xs)) _ _ (λ q.
-      by-test Places (leb b 255) _ _ (λ k. (
-        h₁,
-        leb-true b 255 k,
-        λ lead h. whole lead (p ∷ b ∷ []) e h (one-stands xs 1 p a e _ h₁ e₁ (one-stands xs a b e e _ h₂ e₂ (none-stand xs e l₂))) (eqb-true e (length xs) q),
-      )) (λ _. tt)) (λ _. tt)))
+  placed-sound = with-two Places _ _ tt (λ p b h _ f. by-test Places (leb b 255) _ _ (λ k. (h, leb-true b 255 k, f)) (λ _. tt))
 
   letter-sound : stands xs 0 76 ≡ true → Sounds (letterLine xs)
   unfolding letterLine
@@ -83,15 +110,6 @@ module _ (xs : List ℕ) (short : length xs ≤ mostBytes) where
       going xs Sounds 1 _ _ tt (λ p e h₁ l₁ e₁.
       by-test Sounds (eqb e (length xs)) _ _ (λ q.
       record { short = short; proper = h₁; form = whole 88 (p ∷ []) e h (one-stands xs 1 p e e _ h₁ e₁ (none-stand xs e l₁)) (eqb-true e (length xs) q) }) (λ _. tt))
-
-  limits-sound : stands xs 0 77 ≡ true → Sounds (limitsLine xs)
-  unfolding limitsLine
-  limits-sound h = go (fourAfter xs 1) (four-sound xs 1)
-    where
-      go : (r : Four) → Fours xs 1 r → Sounds (withFour r Unknown (λ l e. ending xs e (Change (NewLimits l))))
-      go Missing p = tt
-      go (Are l e) p =
-          by-test Sounds (eqb e (length xs)) _ _ (λ q. record { short = short; proper = p .small; form = whole 77 _ e h p (eqb-true e (length xs) q) }) (λ _. tt)
 
   -- an opening, by the letter of its map
   opened : (l : Limits) (i : ℕ) (c : Bool) → stands xs 0 79 ≡ true → Stand xs 1 (limitsNumbers l) i → stands xs i 32 ≡ true → stands xs (i + 1) (mapLetter c) ≡ true
@@ -128,10 +146,11 @@ module _ (xs : List ℕ) (short : length xs ≤ mostBytes) where
       by-test Sounds (stands xs 0 76) _ _ letter-sound (λ _.
       by-test Sounds (stands xs 0 73) _ _ in-sound (λ _.
       by-test Sounds (stands xs 0 88) _ _ out-sound (λ _.
-      by-test Sounds (stands xs 0 77) _ _ limits-sound (λ _.
+      by-test Sounds (stands xs 0 75) _ _ kind-sound (λ _.
+      by-test Sounds (stands xs 0 77) _ _ lengths-sound (λ _.
       by-test Sounds (stands xs 0 66) _ _ (lone 66 TakeBack (λ e. record { short = short; proper = tt; form = e })) (λ _.
       by-test Sounds (stands xs 0 65) _ _ (lone 65 PutAgain (λ e. record { short = short; proper = tt; form = e })) (λ _.
-      by-test Sounds (stands xs 0 81) _ _ (lone 81 Question (λ e. record { short = short; proper = tt; form = e })) (λ _. tt))))))))
+      by-test Sounds (stands xs 0 81) _ _ (lone 81 Question (λ e. record { short = short; proper = tt; form = e })) (λ _. tt)))))))))
 
 -- a line that was understood
 abbrev Understood : Line → Type 0
@@ -151,12 +170,16 @@ module _ (xs : List ℕ) where
   same-place : (i j : ℕ) → i ≤ length xs → j ≤ length xs → drop i xs ≡ drop j xs → i ≡ j
   same-place i j h k e = let l : length xs - i ≡ length xs - j = sym (length-drop i xs) ∙ ap length e ∙ length-drop j xs in omega arith
 
+  two-read : (a b : ℕ) → a < 10000 → b < 10000 → drop 1 xs ≡ fields (a ∷ b ∷ []) → twoOf xs ≡ Both a b
+  unfolding twoOf
+  two-read a b h k q =
+      let f₁ = after-complete xs 1 a (b ∷ []) [] h (q ∙ sym (append-nil (fields (a ∷ b ∷ [])))) (no-digit 32 _ (omega arith)) in
+      let f₂ = after-complete xs (f₁ .place) b [] [] k (f₁ .left) nothing-digit in
+      simp (f₁ .read, f₂ .read, eq-eqb _ _ (at-end (f₂ .place) (f₂ .inside) (f₂ .left)))
+
   placed-read : (p b : ℕ) → p < 10000 → b ≤ 255 → drop 1 xs ≡ fields (p ∷ b ∷ []) → placedOf xs ≡ At p b
   unfolding placedOf
-  placed-read p b h k q =
-      let f₁ = after-complete xs 1 p (b ∷ []) [] h (q ∙ sym (append-nil (fields (p ∷ b ∷ [])))) (no-digit 32 _ (omega arith)) in
-      let f₂ = after-complete xs (f₁ .place) b [] [] (omega arith) (f₁ .left) nothing-digit in
-      simp (f₁ .read, f₂ .read, eq-eqb _ _ (at-end (f₂ .place) (f₂ .inside) (f₂ .left)), le-leb _ _ k)
+  placed-read p b h k q = let l : b < 10000 = omega arith in simp (two-read p b h l q, le-leb _ _ k)
 
   letter-read : (p b : ℕ) → Asks xs (change (Letter p b)) → letterLine xs ≡ Change (Letter p b)
   unfolding letterLine
@@ -172,11 +195,13 @@ module _ (xs : List ℕ) where
       let f = after-complete xs 1 p [] [] (q .proper) (ap (drop 1) (q .form) ∙ sym (append-nil (fields (p ∷ [])))) nothing-digit in
       simp (f .read, eq-eqb _ _ (at-end (f .place) (f .inside) (f .left)))
 
-  limits-read : (l : Limits) → Asks xs (change (NewLimits l)) → limitsLine xs ≡ Change (NewLimits l)
-  unfolding limitsLine
-  limits-read l q =
-      let f = four-complete xs 1 l [] (q .proper) (ap (drop 1) (q .form) ∙ sym (append-nil (fields (limitsNumbers l)))) nothing-digit in
-      simp (f .read, eq-eqb _ _ (at-end (f .place) (f .inside) (f .left)))
+  kind-read : (k d : ℕ) → Asks xs (change (Kind k d)) → kindLine xs ≡ Change (Kind k d)
+  unfolding kindLine
+  kind-read k d q = rw (two-read k d (q .proper .0) (q .proper .1 .0) (ap (drop 1) (q .form)))
+
+  lengths-read : (m g : ℕ) → Asks xs (change (Lengths m g)) → lengthsLine xs ≡ Change (Lengths m g)
+  unfolding lengthsLine
+  lengths-read m g q = rw (two-read m g (q .proper .0) (q .proper .1 .0) (ap (drop 1) (q .form)))
 
   -- a space, the map's letter, a space and the string
   string-read : (l : Limits) (c : Bool) (i from : ℕ) → drop i xs ≡ 32 ∷ mapLetter c ∷ 32 ∷ drop from xs → from ≤ length xs → stringAfter xs l i ≡ Open l c from
@@ -220,8 +245,10 @@ module _ (xs : List ℕ) where
   known (Change (Letter p b)) q n = rw (lead 76 _ (q .form) 79, lead 76 _ (q .form) 76) (letter-read p b q)
   known (Change (PutIn p b)) q n = rw (lead 73 _ (q .form) 79, lead 73 _ (q .form) 76, lead 73 _ (q .form) 73) (in-read p b q)
   known (Change (TakeOut p)) q n = rw (lead 88 _ (q .form) 79, lead 88 _ (q .form) 76, lead 88 _ (q .form) 73, lead 88 _ (q .form) 88) (out-read p q)
-  known (Change (NewLimits l)) q n =
-      rw (lead 77 _ (q .form) 79, lead 77 _ (q .form) 76, lead 77 _ (q .form) 73, lead 77 _ (q .form) 88, lead 77 _ (q .form) 77) (limits-read l q)
+  known (Change (Kind k d)) q n =
+      rw (lead 75 _ (q .form) 79, lead 75 _ (q .form) 76, lead 75 _ (q .form) 73, lead 75 _ (q .form) 88, lead 75 _ (q .form) 75) (kind-read k d q)
+  known (Change (Lengths m g)) q n =
+      rw (lead 77 _ (q .form) 79, lead 77 _ (q .form) 76, lead 77 _ (q .form) 73, lead 77 _ (q .form) 88, lead 77 _ (q .form) 75, lead 77 _ (q .form) 77) (lengths-read m g q)
   known TakeBack q n = simp (lead 66 _ (q .form), lone-ends 66 TakeBack (q .form))
   known PutAgain q n = simp (lead 65 _ (q .form), lone-ends 65 PutAgain (q .form))
   known Question q n = simp (lead 81 _ (q .form), lone-ends 81 Question (q .form))

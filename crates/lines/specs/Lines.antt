@@ -1,4 +1,4 @@
--- The lines of a call (01, "The call program"): what a line asks is what its text says, and nothing else is understood.
+-- The lines of a call (01, "The call program"; 02, L5 and L6): what a line asks is what its text says, and nothing else is understood.
 use mathlib.Core.Path.{_≡_}
 use mathlib.Core.Bool.{Bool, cond}
 use mathlib.Core.List.{List, [], _∷_, _++_}
@@ -6,7 +6,7 @@ use Prim.Native.Nat.{ℕ, _≤_, _<_}
 use lib.ListN.{length, drop}
 use Rattle.terms.specs.declared.limits.Limits.{Limits}
 use Rattle.changes.specs.declared.Edit.{Edit}
-use Rattle.changes.specs.declared.Edit.the-variants.{Letter, Limits as NewLimits, PutIn, TakeOut}
+use Rattle.changes.specs.declared.Edit.the-variants.{Letter, Kind, Lengths, PutIn, TakeOut}
 use Rattle.printing.specs.Printing.{fields}
 use Rattle.lines.specs.declared.Line.{Line}
 use Rattle.lines.specs.declared.Line.the-variants.{Open, Change, TakeBack, PutAgain, Question, Unknown}
@@ -17,7 +17,7 @@ pub data Asked : Type 0 where
   change : Edit → Asked
   takeBack putAgain question : Asked
 
--- Kind, m, g and d as they stand in a line.
+-- Kind, m, g and d as they stand in an opening.
 abbrev pub limitsNumbers : Limits → List ℕ
 limitsNumbers l = l .kind ∷ l .m ∷ l .g ∷ l .d ∷ []
 
@@ -25,13 +25,14 @@ limitsNumbers l = l .kind ∷ l .m ∷ l .g ∷ l .d ∷ []
 abbrev pub mapLetter : Bool → ℕ
 mapLetter complement = cond complement 67 73
 
--- The bytes of a line: `O kind m g d map string`, `L place byte`, `I place byte`, `X place`, `M kind m g d`, `B`, `A`, `Q`. One space between fields.
+-- The bytes of a line: `O kind m g d map string`, `L place byte`, `I place byte`, `X place`, `K kind d`, `M m g`, `B`, `A`, `Q`. One space between fields.
 abbrev pub lineText : Asked → List ℕ
 lineText (opening l c string) = 79 ∷ (fields (limitsNumbers l) ++ (32 ∷ mapLetter c ∷ 32 ∷ string))
 lineText (change (Letter place byte)) = 76 ∷ fields (place ∷ byte ∷ [])
 lineText (change (PutIn place byte)) = 73 ∷ fields (place ∷ byte ∷ [])
 lineText (change (TakeOut place)) = 88 ∷ fields (place ∷ [])
-lineText (change (NewLimits l)) = 77 ∷ fields (limitsNumbers l)
+lineText (change (Kind kind d)) = 75 ∷ fields (kind ∷ d ∷ [])
+lineText (change (Lengths m g)) = 77 ∷ fields (m ∷ g ∷ [])
 lineText takeBack = 66 ∷ []
 lineText putAgain = 65 ∷ []
 lineText question = 81 ∷ []
@@ -47,7 +48,8 @@ Proper (opening l c string) = Short (limitsNumbers l)
 Proper (change (Letter place byte)) = (place < 10000) × (byte ≤ 255)
 Proper (change (PutIn place byte)) = (place < 10000) × (byte ≤ 255)
 Proper (change (TakeOut place)) = place < 10000
-Proper (change (NewLimits l)) = Short (limitsNumbers l)
+Proper (change (Kind kind d)) = Short (kind ∷ d ∷ [])
+Proper (change (Lengths m g)) = Short (m ∷ g ∷ [])
 Proper takeBack = Unit {0}
 Proper putAgain = Unit {0}
 Proper question = Unit {0}

@@ -5,11 +5,13 @@ use Prim.Native.Nat.{ℕ, _+_, _-_, _*_}
 use lib.Dec.{leb, ltb, eqb}
 use lib.ListN.{length, getD}
 use Rattle.terms.specs.declared.limits.Limits.{Limits}
-use Rattle.changes.specs.declared.Edit.the-variants.{Letter, Limits as NewLimits, PutIn, TakeOut}
+use Rattle.changes.specs.declared.Edit.the-variants.{Letter, Kind, Lengths, PutIn, TakeOut}
 use Rattle.lines.specs.declared.Number.{Number}
 use Rattle.lines.specs.declared.Number.the-variants.{Is, Not}
 use Rattle.lines.specs.declared.Four.{Four}
 use Rattle.lines.specs.declared.Four.the-variants.{Are, Missing}
+use Rattle.lines.specs.declared.Two.{Two}
+use Rattle.lines.specs.declared.Two.the-variants.{Both, NotBoth}
 use Rattle.lines.specs.declared.Placed.{Placed}
 use Rattle.lines.specs.declared.Placed.the-variants.{At, Nowhere}
 use Rattle.lines.specs.declared.Line.{Line}
@@ -55,11 +57,18 @@ fourAfter xs i =
 abbrev pub ending : List ℕ → ℕ → Line → Line
 ending xs i line = cond (eqb i (length xs)) line Unknown
 
+-- Two numbers behind the line's letter, up to its end.
+unfoldable pub twoOf : List ℕ → Two
+twoOf xs =
+    withNumber (numberAfter xs 1) NotBoth (λ a i. withNumber (numberAfter xs i) NotBoth (λ b e. cond (eqb e (length xs)) (Both a b) NotBoth))
+
+abbrev pub withTwo {ℓ} : {A : Type ℓ} → Two → A → (ℕ → ℕ → A) → A
+withTwo NotBoth none then = none
+withTwo (Both a b) none then = then a b
+
 -- A place and a byte up to the line's end.
 unfoldable pub placedOf : List ℕ → Placed
-placedOf xs =
-    withNumber (numberAfter xs 1) Nowhere (λ p a.
-    withNumber (numberAfter xs a) Nowhere (λ b e. cond (eqb e (length xs)) (cond (leb b 255) (At p b) Nowhere) Nowhere))
+placedOf xs = withTwo (twoOf xs) Nowhere (λ p b. cond (leb b 255) (At p b) Nowhere)
 
 abbrev pub withPlaced : Placed → (ℕ → ℕ → Line) → Line
 withPlaced Nowhere then = Unknown
@@ -74,8 +83,11 @@ inLine xs = withPlaced (placedOf xs) (λ p b. Change (PutIn p b))
 unfoldable pub outLine : List ℕ → Line
 outLine xs = withNumber (numberAfter xs 1) Unknown (λ p e. ending xs e (Change (TakeOut p)))
 
-unfoldable pub limitsLine : List ℕ → Line
-limitsLine xs = withFour (fourAfter xs 1) Unknown (λ l e. ending xs e (Change (NewLimits l)))
+unfoldable pub kindLine : List ℕ → Line
+kindLine xs = withTwo (twoOf xs) Unknown (λ k d. Change (Kind k d))
+
+unfoldable pub lengthsLine : List ℕ → Line
+lengthsLine xs = withTwo (twoOf xs) Unknown (λ m g. Change (Lengths m g))
 
 -- A space, the map's letter and a space; then the string.
 abbrev pub stringAfter : List ℕ → Limits → ℕ → Line
@@ -89,5 +101,5 @@ openLine xs = withFour (fourAfter xs 1) Unknown (λ l i. stringAfter xs l i)
 -- A whole line.
 unfoldable pub lineOf : List ℕ → Line
 lineOf xs =
-    cond (stands xs 0 79) (openLine xs) (cond (stands xs 0 76) (letterLine xs) (cond (stands xs 0 73) (inLine xs) (cond (stands xs 0 88) (outLine xs) (cond (stands xs 0 77) (limitsLine xs)
-    (cond (stands xs 0 66) (ending xs 1 TakeBack) (cond (stands xs 0 65) (ending xs 1 PutAgain) (cond (stands xs 0 81) (ending xs 1 Question) Unknown)))))))
+    cond (stands xs 0 79) (openLine xs) (cond (stands xs 0 76) (letterLine xs) (cond (stands xs 0 73) (inLine xs) (cond (stands xs 0 88) (outLine xs) (cond (stands xs 0 75) (kindLine xs) (cond (stands xs 0 77) (lengthsLine xs)
+    (cond (stands xs 0 66) (ending xs 1 TakeBack) (cond (stands xs 0 65) (ending xs 1 PutAgain) (cond (stands xs 0 81) (ending xs 1 Question) Unknown))))))))

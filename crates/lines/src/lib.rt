@@ -8,7 +8,7 @@ use changes::Edit;
 use terms::limits::Limits;
 ghost use mathlib.Core.Path.{_≡_};
 ghost use Rattle.lines.specs.Lines.{Reads};
-ghost use Rattle.lines.specs.Work.{ending, placedOf, letterLine, inLine, outLine, limitsLine, openLine, lineOf};
+ghost use Rattle.lines.specs.Work.{ending, twoOf, placedOf, letterLine, inLine, outLine, kindLine, lengthsLine, openLine, lineOf};
 
 // The most bytes of a line before its line end.
 pub const BYTES: usize = 1040;
@@ -41,29 +41,49 @@ pub enum Four {
     Missing,
 }
 
+// Two numbers behind a line's letter, up to its end.
+pub enum Two {
+    Both { first: usize, second: usize },
+    NotBoth,
+}
+
 // A place and a byte, up to the end of a line.
 pub enum Placed {
     At { place: usize, byte: u8 },
     Nowhere,
 }
 
+// ` first second`, behind a line's letter
+fn two_numbers(s: &[u8]) -> Two
+    ensures { λ r. ⌜ r ≡ twoOf (now (s .entry)) ⌝ }
+{
+    let Number::Is { value: first, next } = number_after(s, 1) else {
+        return Two::NotBoth;
+    };
+    let Number::Is {
+        value: second,
+        next: behind,
+    } = number_after(s, next)
+    else {
+        return Two::NotBoth;
+    };
+    if behind != s.len() {
+        return Two::NotBoth;
+    }
+    Two::Both { first, second }
+}
+
 // ` place byte`, behind a line's letter
 fn place_byte(s: &[u8]) -> Placed
     ensures { λ r. ⌜ r ≡ placedOf (now (s .entry)) ⌝ }
 {
-    let Number::Is { value: place, next } = number_after(s, 1) else {
-        return Placed::Nowhere;
-    };
-    let Number::Is {
-        value: byte,
-        next: end,
-    } = number_after(s, next)
+    let Two::Both {
+        first: place,
+        second: byte,
+    } = two_numbers(s)
     else {
         return Placed::Nowhere;
     };
-    if end != s.len() {
-        return Placed::Nowhere;
-    }
     if 255 < byte {
         return Placed::Nowhere;
     }
@@ -113,17 +133,33 @@ fn out_line(s: &[u8]) -> Line
     Line::Change { edit }
 }
 
-// `M kind m g d`
-fn limits_line(s: &[u8]) -> Line
-    ensures { λ r. ⌜ r ≡ limitsLine (now (s .entry)) ⌝ }
+// `K kind d`
+fn kind_line(s: &[u8]) -> Line
+    ensures { λ r. ⌜ r ≡ kindLine (now (s .entry)) ⌝ }
 {
-    let Four::Are { limits, next: end } = four_after(s, 1) else {
+    let Two::Both {
+        first: kind,
+        second: d,
+    } = two_numbers(s)
+    else {
         return Line::Unknown;
     };
-    if end != s.len() {
+    let edit = Edit::Kind { kind, d };
+    Line::Change { edit }
+}
+
+// `M m g`
+fn lengths_line(s: &[u8]) -> Line
+    ensures { λ r. ⌜ r ≡ lengthsLine (now (s .entry)) ⌝ }
+{
+    let Two::Both {
+        first: m,
+        second: g,
+    } = two_numbers(s)
+    else {
         return Line::Unknown;
-    }
-    let edit = Edit::Limits { limits };
+    };
+    let edit = Edit::Lengths { m, g };
     Line::Change { edit }
 }
 
@@ -184,8 +220,11 @@ fn line_of(s: &[u8]) -> Line
     if stands(s, 0, b'X') {
         return out_line(s);
     }
+    if stands(s, 0, b'K') {
+        return kind_line(s);
+    }
     if stands(s, 0, b'M') {
-        return limits_line(s);
+        return lengths_line(s);
     }
     if stands(s, 0, b'B') {
         return alone(s, Line::TakeBack);

@@ -11,7 +11,7 @@ use lib.ListN.{length, getD, take}
 use Rattle.terms.specs.Refusals.{firstFault}
 use Rattle.terms.specs.Maps.{everyBelow, ownInverse, mapFaults, plainMap, complementMap}
 use Rattle.terms.specs.Alphabets.{allBytes, someBelow, ownPartner, closedUnder, spelt, alphabetFaults}
-use Rattle.terms.specs.Limits.{wrongKind, tooManyErrors, outOfRange, limitsFaults}
+use Rattle.terms.specs.Limits.{wrongKind, tooManyErrors, kindOutOfRange, lengthsOutOfRange, outOfRange, limitsFaults}
 use Rattle.terms.specs.Texts.{Text, size, textFaults, openingFaults, stringFaults}
 use Rattle.terms.specs.Tells.{Tells}
 use Rattle.terms.specs.declared.limits.Limits.{Limits}
@@ -240,5 +240,5 @@ shown-all (e ∷ es) t = (shown-is e (and-left _ _ t), shown-all es (and-right (
 
 -- The theorem: every example of the table holds.
 pub all-shown : AllShown samples
-unfolding shownAll? shown? accepted? small? given? printed? line? lines? numbers? piece? implies everyTiling sooner? same? upfront? better? tiles? permitted? entry? lengthsOf longest outward one count wrongPair wrongMiddle errorCount firstFault openingFaults textFaults mapFaults limitsFaults wrongKind outOfRange tooManyErrors ownInverse everyBelow plainMap complementMap stringFaults alphabetFaults closedUnder spelt ownPartner someBelow allBytes bases
+unfolding shownAll? shown? accepted? small? given? printed? line? lines? numbers? piece? implies everyTiling sooner? same? upfront? better? tiles? permitted? entry? lengthsOf longest outward one count wrongPair wrongMiddle errorCount firstFault openingFaults textFaults mapFaults limitsFaults wrongKind outOfRange lengthsOutOfRange kindOutOfRange tooManyErrors ownInverse everyBelow plainMap complementMap stringFaults alphabetFaults closedUnder spelt ownPartner someBelow allBytes bases
 all-shown = shown-all samples refl

@@ -1,4 +1,4 @@
--- The text of every reply (01, "The call program").
+-- The text of every reply (01, "The call program"; 02, L5 and L6).
 use mathlib.Core.Bool.{cond}
 use mathlib.Core.List.{List, [], _∷_, _++_}
 use Prim.Native.Nat.{ℕ, _+_}
@@ -10,23 +10,24 @@ use Rattle.tilings.specs.Laws.{lengthOf}
 use Rattle.records.specs.Records.{tagOf, errorsOf}
 use Rattle.sheet.specs.Calls.{numberOf, valuesOf}
 use Rattle.sheet.specs.declared.Said.{Said}
-use Rattle.sheet.specs.declared.Said.the-variants.{Letter, Limits, PutIn, TakeOut, Opened, No}
+use Rattle.sheet.specs.declared.Said.the-variants.{Letter, Kind, Lengths, PutIn, TakeOut, Opened, No}
 use Rattle.printing.specs.Printing.{printed}
 
 -- A refusal prints `!` and its number.
 abbrev pub refusalText : ℕ → List ℕ
 refusalText k = printed 33 (k ∷ [])
 
--- `O n 0`; `L place old new standing`; `I place letter n standing`; `X place letter n standing`; `M kind m g d standing`.
+-- `O n 0`; `L place old new standing`; `I place letter n standing`; `X place letter n standing`; `K kind m g d standing`; `M kind m g d standing`.
 abbrev pub saidText : Said → List ℕ
 saidText (Opened n) = printed 79 (valuesOf (Opened n))
 saidText (Letter p old new k) = printed 76 (valuesOf (Letter p old new k))
 saidText (PutIn p b n k) = printed 73 (valuesOf (PutIn p b n k))
 saidText (TakeOut p b n k) = printed 88 (valuesOf (TakeOut p b n k))
-saidText (Limits l k) = printed 77 (valuesOf (Limits l k))
+saidText (Kind l k) = printed 75 (valuesOf (Kind l k))
+saidText (Lengths l k) = printed 77 (valuesOf (Lengths l k))
 saidText (No k) = refusalText (numberOf (No k))
 
--- After B or A that letter, a space and the L, I, X or M line of what was restored: a letter put in is taken out again, and one taken out put in.
+-- After B or A that letter, a space and the L, I, X, K or M line of what was restored: a letter put in is taken out again, and one taken out put in.
 abbrev pub restoredText : ℕ → Said → List ℕ
 restoredText letter said = cond (eqb (numberOf said) 0) (letter ∷ 32 ∷ saidText said) (saidText said)
 

@@ -5,6 +5,7 @@ use questions::Answer;
 use reader::record_at;
 use records::SIZE;
 use sheet::Said;
+use terms::limits::Limits;
 ghost use mathlib.Core.Path.{_≡_};
 ghost use mathlib.Core.List.{[], _∷_};
 ghost use Prim.Native.Nat.{_+_, _*_, _≤_};
@@ -47,7 +48,11 @@ pub fn number_of(said: Said) -> usize
             n: _,
             standing: _,
         } => 0,
-        Said::Limits {
+        Said::Kind {
+            now: _,
+            standing: _,
+        } => 0,
+        Said::Lengths {
             now: _,
             standing: _,
         } => 0,
@@ -68,6 +73,14 @@ fn put_shift(
     ensures { λ r. ⌜ Put (now (out .entry)) at (printed mark (place ∷ byte ∷ n ∷ standing ∷ [])) r (now (out .exit)) ⌝ }
 {
     let numbers = [place, byte as usize, n, standing];
+    put_line(out, at, mark, &numbers)
+}
+
+// The line of a limits call: all four limits, how many changes stand.
+fn put_limits(out: &mut [u8], at: usize, mark: u8, limits: Limits, standing: usize) -> usize
+    ensures { λ r. ⌜ Put (now (out .entry)) at (printed mark (limits .kind ∷ limits .m ∷ limits .g ∷ limits .d ∷ standing ∷ [])) r (now (out .exit)) ⌝ }
+{
+    let numbers = [limits.kind, limits.m, limits.g, limits.d, standing];
     put_line(out, at, mark, &numbers)
 }
 
@@ -101,10 +114,8 @@ pub fn put_said(out: &mut [u8], at: usize, said: Said) -> usize
             n,
             standing,
         } => put_shift(out, at, b'X', place, byte, n, standing),
-        Said::Limits { now, standing } => {
-            let numbers = [now.kind, now.m, now.g, now.d, standing];
-            put_line(out, at, b'M', &numbers)
-        }
+        Said::Kind { now, standing } => put_limits(out, at, b'K', now, standing),
+        Said::Lengths { now, standing } => put_limits(out, at, b'M', now, standing),
         Said::No { number } => {
             let numbers = [number];
             put_line(out, at, b'!', &numbers)

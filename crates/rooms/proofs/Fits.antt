@@ -1,31 +1,31 @@
 -- No reply is longer than 65,536 bytes. Assumes nothing.
-use mathlib.Core.Path.{_≡_, refl, sym, ap, _∙_}
+use mathlib.Core.Path.{_≡_, sym, ap, _∙_}
 use mathlib.Core.Bool.{Bool, true, false, not, cond}
 use mathlib.Core.List.{List, [], _∷_}
 use mathlib.Core.Logic.{inl, inr, ⊎-elim}
 use Prim.Native.Nat.{ℕ, _+_, _-_, _≤_, _<_}
 use native.Mathlib.Omega.{arith}
-use borrow.Author.Tests.{eqb-true, eqb-false}
+use borrow.Author.Tests.{eqb-false}
 use lib.Dec.{eqb}
 use lib.ListN.{length, drop}
 use Rattle.terms.specs.Refusals.{firstFault, OneOf}
 use Rattle.terms.specs.Maps.{mapFaults}
-use Rattle.terms.specs.Limits.{limitsFaults}
+use Rattle.terms.specs.Limits.{kindFaults, lengthsFaults, limitsFaults}
 use Rattle.terms.specs.Alphabets.{alphabetFaults}
 use Rattle.terms.specs.Texts.{Text, textAll, stringFaults, textFaults, openingFaults}
 use Rattle.terms.specs.declared.limits.Limits.{Limits}
-use Rattle.terms.proofs.Refusals.{numbers, fault-listed}
+use Rattle.terms.proofs.Refusals.{numbers, fault-listed, opening-parts}
 use Rattle.terms.proofs.Passed.{passed, not-off, sound-limits, sound-opening}
 use Rattle.tilings.specs.Tilings.{Part, Given}
 use Rattle.boards.specs.Pieces.{board}
 use Rattle.questions.specs.Tiling.{figures}
 use Rattle.questions.specs.declared.Answer.{Answer}
-use Rattle.changes.specs.Changes.{doneOf, backOf, lengthBy, placeFault, letterFault, editFaults, accepts}
+use Rattle.changes.specs.Changes.{doneOf, backOf, lengthBy, limitsBy, placeFault, letterFault, editFaults, accepts}
 use Rattle.changes.specs.declared.Change.{Change}
-use Rattle.changes.specs.declared.Change.the-variants.{Letter as ChangedLetter, Limits as ChangedLimits, PutIn as DidPutIn, TakeOut as DidTakeOut}
+use Rattle.changes.specs.declared.Change.the-variants.{Letter as ChangedLetter, Kind as DidKind, Lengths as DidLengths, PutIn as DidPutIn, TakeOut as DidTakeOut}
 use Rattle.changes.specs.declared.Edit.{Edit}
-use Rattle.changes.specs.declared.Edit.the-variants.{Letter as EditLetter, Limits as EditLimits, PutIn as EditPutIn, TakeOut as EditTakeOut}
-use Rattle.changes.proofs.Accepting.{accepted-limits, accepts-fits, fits-letter, fits-in, fits-out}
+use Rattle.changes.specs.declared.Edit.the-variants.{Letter as EditLetter, Kind as EditKind, Lengths as EditLengths, PutIn as EditPutIn, TakeOut as EditTakeOut}
+use Rattle.changes.proofs.Accepting.{limits-pass, accepts-fits, fits-letter, fits-in, fits-out}
 use Rattle.shifts.specs.Shifts.{replacing}
 use Rattle.sheet.specs.Bounds.{textOf, inBounds}
 use Rattle.sheet.specs.Calls.{answered, saidOf, applied, changed, changeFaults, changeCall, newestOf, lastTaken, takeBackFaults, takeBackCall, putAgainFaults, putAgainCall, openCall}
@@ -34,7 +34,7 @@ use Rattle.sheet.specs.declared.Said.{Said}
 use Rattle.sheet.specs.declared.Sheet.{Sheet}
 use Rattle.sheet.specs.declared.Reply.{Reply}
 use Rattle.sheet.proofs.Asked.{sheet-laws}
-use Rattle.sheet.proofs.Replying.{answer-no, answer-yes, change-sound, back-accepted, done-accepted}
+use Rattle.sheet.proofs.Replying.{answered-either, change-sound, back-accepted, done-accepted}
 use Rattle.sheet.proofs.Within.{bounds}
 use Rattle.lines.specs.Lines.{change, Short, Proper, Reads}
 use Rattle.lines.specs.declared.Line.{Line}
@@ -54,66 +54,80 @@ listed-short k (n ∷ ns) h (inr o) = listed-short k ns (h .1) o
 
 -- a call says short numbers where its refusals' are, and those of what it accepts
 answered-small : (faults : List (ℕ × Bool)) (s : Sheet) (accepted : Reply) → Short (numbers faults) → (0 ≡ firstFault faults → Small (accepted .said)) → Small (answered faults s accepted .said)
-answered-small faults s accepted h a = go (eqb (firstFault faults) 0) refl
-  where
-    go : (t : Bool) → eqb (firstFault faults) 0 ≡ t → Small (answered faults s accepted .said)
-    go true e = let z : 0 ≡ firstFault faults = sym (eqb-true _ _ e) in rw (answer-yes faults s accepted z) (a z)
-    go false e =
-        rw (answer-no faults s accepted (firstFault faults) refl (eqb-false _ _ e))
-        (record { number = listed-short (firstFault faults) (0 ∷ numbers faults) (omega arith, h) (fault-listed faults); values = (omega arith, (omega arith, (omega arith, (omega arith, tt)))) })
+answered-small faults s accepted h a =
+    answered-either faults s accepted (λ r. Small (r .said))
+    (λ _. record { number = listed-short (firstFault faults) (0 ∷ numbers faults) (omega arith, h) (fault-listed faults); values = (omega arith, (omega arith, (omega arith, (omega arith, tt)))) })
+    a
 
 -- an edit that writes a letter writes a byte
 abbrev ByteOf : Edit → Type 0
 ByteOf (EditLetter p b) = b < 256
-ByteOf (EditLimits l) = Unit {0}
+ByteOf (EditKind k d) = Unit {0}
+ByteOf (EditLengths m g) = Unit {0}
 ByteOf (EditPutIn p b) = b < 256
 ByteOf (EditTakeOut p) = Unit {0}
 
 -- so does one that a line asks for
 asked-byte : (e : Edit) → Proper (change e) → ByteOf e
 asked-byte (EditLetter p b) h = omega (arith, h .1)
-asked-byte (EditLimits l) h = tt
+asked-byte (EditKind k d) h = tt
+asked-byte (EditLengths m g) h = tt
 asked-byte (EditPutIn p b) h = omega (arith, h .1)
 asked-byte (EditTakeOut p) h = tt
 
 -- one that takes back a kept change
 back-byte : (c : Change) → LettersOf c → ByteOf (backOf c)
 back-byte (ChangedLetter p old new) h = h .0
-back-byte (ChangedLimits old new) h = tt
+back-byte (DidKind k₀ d₀ k d) h = tt
+back-byte (DidLengths m₀ g₀ m g) h = tt
 back-byte (DidPutIn p b) h = tt
 back-byte (DidTakeOut p b) h = h
 
 -- and one that makes it again
 done-byte : (c : Change) → LettersOf c → ByteOf (doneOf c)
 done-byte (ChangedLetter p old new) h = h .1
-done-byte (ChangedLimits old new) h = tt
+done-byte (DidKind k₀ d₀ k d) h = tt
+done-byte (DidLengths m₀ g₀ m g) h = tt
 done-byte (DidPutIn p b) h = h
 done-byte (DidTakeOut p b) h = tt
 
+-- limits that pass are short numbers, with k changes standing
+limits-short : (l : Limits) (k : ℕ) → firstFault (limitsFaults l) ≡ 0 → k ≤ 64 → Short (l .kind ∷ l .m ∷ l .g ∷ l .d ∷ k ∷ [])
+limits-short l k f few =
+    let w = sound-limits l f in
+    let kind : l .kind ≤ 2 = ⊎-elim (λ (e : l .kind ≡ 1). omega arith) (λ (e : l .kind ≡ 2). omega arith) (w .kind) in
+    (omega arith, (omega (arith, w .short), (omega (arith, w .few), (omega (arith, w .near), (omega arith, tt)))))
+
 -- each call on a sheet says short numbers
 module _ (s : Sheet) (b : Bytes s) where
+  -- an accepted edit leaves limits that pass
+  passes : inBounds s ≡ true → (e : Edit) → accepts (s .n) (s .alphabet) e ≡ true → firstFault (limitsFaults (limitsBy e (s .limits))) ≡ 0
+  passes i e a = limits-pass (s .n) (s .alphabet) (s .limits) (opening-parts (textOf s) (s .limits) (bounds s i .opens) .1) e a
+
   -- an edit that is accepted, with k changes standing
-  edit-small : (e : Edit) (k : ℕ) → s .n ≤ 1000 → accepts (s .n) (s .alphabet) e ≡ true → ByteOf e → k ≤ 64 → Small (saidOf (replacing e (s .letters) (s .limits)) (lengthBy e (s .n)) k)
+  edit-small : (e : Edit) (k : ℕ) → inBounds s ≡ true → accepts (s .n) (s .alphabet) e ≡ true → ByteOf e → k ≤ 64
+      → Small (saidOf (replacing e (s .letters) (s .limits)) (lengthBy e (s .n)) k (limitsBy e (s .limits)))
   unfolding replacing
-  edit-small (EditLetter p c) k n a h few =
+  edit-small (EditLetter p c) k i a h few =
+      let n = bounds s i .letters in
       let w = fits-letter (s .n) p c (accepts-fits (s .n) (s .alphabet) (EditLetter p c) a) in
       record { number = omega arith; values = (omega arith, (omega (arith, b .letters p), (omega arith, (omega arith, tt)))) }
-  edit-small (EditLimits l) k n a h few =
-      let w = sound-limits l (accepted-limits (s .n) (s .alphabet) l a) in
-      let kind : l .kind ≤ 2 = ⊎-elim (λ (e : l .kind ≡ 1). omega arith) (λ (e : l .kind ≡ 2). omega arith) (w .kind) in
-      record { number = omega arith; values = (omega arith, (omega (arith, w .short), (omega (arith, w .few), (omega (arith, w .near), (omega arith, tt))))) }
-  edit-small (EditPutIn p c) k n a h few =
+  edit-small (EditKind c d) k i a h few = record { number = omega arith; values = limits-short _ k (passes i (EditKind c d) a) few }
+  edit-small (EditLengths m g) k i a h few = record { number = omega arith; values = limits-short _ k (passes i (EditLengths m g) a) few }
+  edit-small (EditPutIn p c) k i a h few =
       let w = fits-in (s .n) p c (accepts-fits (s .n) (s .alphabet) (EditPutIn p c) a) in
       record { number = omega arith; values = (omega arith, (omega arith, (omega arith, (omega arith, tt)))) }
-  edit-small (EditTakeOut p) k n a h few =
+  edit-small (EditTakeOut p) k i a h few =
+      let n = bounds s i .letters in
       let w = fits-out (s .n) p (accepts-fits (s .n) (s .alphabet) (EditTakeOut p) a) in
       record { number = omega arith; values = (omega arith, (omega (arith, b .letters p), (omega arith, (omega arith, tt)))) }
 
   -- a call for a change
   faults-short : (e : Edit) → Short (numbers (changeFaults s e))
-  unfolding changeFaults editFaults placeFault letterFault limitsFaults
+  unfolding changeFaults editFaults placeFault letterFault kindFaults lengthsFaults
   faults-short (EditLetter p c) = (omega arith, (omega arith, (omega arith, (omega arith, tt))))
-  faults-short (EditLimits l) = (omega arith, (omega arith, (omega arith, (omega arith, tt))))
+  faults-short (EditKind k d) = (omega arith, (omega arith, (omega arith, (omega arith, tt))))
+  faults-short (EditLengths m g) = (omega arith, (omega arith, (omega arith, tt)))
   faults-short (EditPutIn p c) = (omega arith, (omega arith, (omega arith, (omega arith, (omega arith, tt)))))
   faults-short (EditTakeOut p) = (omega arith, (omega arith, (omega arith, tt)))
 
@@ -136,7 +150,7 @@ module _ (s : Sheet) (b : Bytes s) where
       answered-small (takeBackFaults s) _ _ (omega arith, (omega arith, tt))
       (λ e.
       let (i, some) = there-is 8 (s .standing) (omega arith) e in
-      edit-small (backOf (newestOf s)) (s .standing - 1) (bounds s i .letters) (back-accepted s i some)
+      edit-small (backOf (newestOf s)) (s .standing - 1) i (back-accepted s i some)
       (back-byte (newestOf s) (b .kept (s .standing - 1))) (omega (arith, bounds s i .few)))
 
   -- a put-again
@@ -146,7 +160,7 @@ module _ (s : Sheet) (b : Bytes s) where
       answered-small (putAgainFaults s) _ _ (omega arith, (omega arith, tt))
       (λ e.
       let (i, some) = there-is 9 (s .taken) (omega arith) e in
-      edit-small (doneOf (lastTaken s)) (s .standing + 1) (bounds s i .letters) (done-accepted s i some)
+      edit-small (doneOf (lastTaken s)) (s .standing + 1) i (done-accepted s i some)
       (done-byte (lastTaken s) (b .kept (s .standing))) (omega (arith, bounds s i .few)))
 
 -- so does an opening

@@ -15,7 +15,7 @@ use Rattle.boards.proofs.Laws.{board-laws, piece-errors}
 use Rattle.records.specs.Records.{tagOf, errorsOf}
 use Rattle.sheet.specs.Calls.{numberOf, valuesOf}
 use Rattle.sheet.specs.declared.Said.{Said}
-use Rattle.sheet.specs.declared.Said.the-variants.{Letter as SaidLetter, Limits as SaidLimits, PutIn as SaidPutIn, TakeOut as SaidTakeOut, Opened, No}
+use Rattle.sheet.specs.declared.Said.the-variants.{Letter as SaidLetter, Kind as SaidKind, Lengths as SaidLengths, PutIn as SaidPutIn, TakeOut as SaidTakeOut, Opened, No}
 use Rattle.printing.specs.Printing.{decimal, fields, printed}
 use Rattle.printing.proofs.Laws.{decimal-short}
 use Rattle.lines.specs.Lines.{Short}
@@ -44,7 +44,8 @@ pub record Small (w : Said) : Type 0 where
 -- the line of a change or an opening, or a refusal
 pub said-length : (w : Said) → Small w → length (saidText w) ≤ 27
 said-length (SaidLetter p old new k) h = omega (arith, line-length 76 (valuesOf (SaidLetter p old new k)) (h .values))
-said-length (SaidLimits l k) h = line-length 77 (valuesOf (SaidLimits l k)) (h .values)
+said-length (SaidKind l k) h = line-length 75 (valuesOf (SaidKind l k)) (h .values)
+said-length (SaidLengths l k) h = line-length 77 (valuesOf (SaidLengths l k)) (h .values)
 said-length (SaidPutIn p b n k) h = omega (arith, line-length 73 (valuesOf (SaidPutIn p b n k)) (h .values))
 said-length (SaidTakeOut p b n k) h = omega (arith, line-length 88 (valuesOf (SaidTakeOut p b n k)) (h .values))
 said-length (Opened n) h = omega (arith, line-length 79 (valuesOf (Opened n)) (h .values))

@@ -6,7 +6,7 @@ use lib.ListN.{length, getD}
 use Rattle.terms.specs.Refusals.{OneOf}
 use Rattle.questions.specs.declared.Answer.{Answer}
 use Rattle.changes.specs.declared.Change.{Change}
-use Rattle.changes.specs.declared.Change.the-variants.{Letter, Limits, PutIn, TakeOut}
+use Rattle.changes.specs.declared.Change.the-variants.{Letter, Kind, Lengths, PutIn, TakeOut}
 use Rattle.kept.specs.Lists.{keptAt}
 use Rattle.sheet.specs.Question.{SheetReply}
 use Rattle.sheet.specs.declared.Sheet.{Sheet}
@@ -23,7 +23,8 @@ RoomEnough =
 -- A sheet's letters, and those of its kept changes, are bytes, as the sheet's own type has it.
 abbrev pub LettersOf : Change → Type 0
 LettersOf (Letter p old new) = (old < 256) × (new < 256)
-LettersOf (Limits old new) = Unit {0}
+LettersOf (Kind k₀ d₀ k d) = Unit {0}
+LettersOf (Lengths m₀ g₀ m g) = Unit {0}
 LettersOf (PutIn p b) = b < 256
 LettersOf (TakeOut p b) = b < 256
 

@@ -1,10 +1,10 @@
 -- What each call gives: a refusal by its first fault, or what is accepted. Assumes nothing.
 use mathlib.Core.Path.{_≡_, refl, sym, ap, subst, _∙_}
-use mathlib.Core.Bool.{Bool, true, false, not}
+use mathlib.Core.Bool.{Bool, true, false, not, cond}
 use mathlib.Core.List.{List, [], _∷_, _++_}
-use Prim.Native.Nat.{ℕ, suc, _+_, _-_, _≤_, _<_}
+use Prim.Native.Nat.{ℕ, suc, _+_, _-_, _<_}
 use native.Mathlib.Omega.{arith}
-use borrow.Author.Tests.{eq-eqb, ne-eqb, leb-false}
+use borrow.Author.Tests.{eq-eqb, ne-eqb, eqb-true, eqb-false, leb-false}
 use lib.Dec.{leb, eqb}
 use lib.ListN.{length}
 use Rattle.terms.specs.Refusals.{firstFault}
@@ -12,10 +12,10 @@ use Rattle.terms.specs.Texts.{Text, openingFaults}
 use Rattle.terms.specs.declared.limits.Limits.{Limits}
 use Rattle.terms.proofs.Passed.{passed, not-off}
 use Rattle.terms.proofs.Refusals.{fault-none, fault-first, fault-next}
-use Rattle.changes.specs.Changes.{doneOf, backOf, lengthBy, editFaults, accepts}
+use Rattle.changes.specs.Changes.{doneOf, backOf, lengthBy, limitsBy, editFaults, accepts}
 use Rattle.changes.specs.Work.{fits}
 use Rattle.changes.specs.declared.Change.{Change}
-use Rattle.changes.specs.declared.Change.the-variants.{Letter, Limits as ChangedLimits, PutIn, TakeOut}
+use Rattle.changes.specs.declared.Change.the-variants.{Letter, Kind, Lengths, PutIn, TakeOut}
 use Rattle.changes.specs.declared.Edit.{Edit}
 use Rattle.changes.proofs.Accepting.{none-accepts, accepts-fits, edit-numbered}
 use Rattle.shifts.specs.Shifts.{replacing}
@@ -29,7 +29,7 @@ use Rattle.sheet.specs.Bounds.{inBounds}
 use Rattle.sheet.specs.Calls.{numberOf, valuesOf, refusing, answered, CallReply, saidOf, applied, changed, changeFaults, newestOf, lastTaken, takeBackFaults, putAgainFaults, opened, blankSheet, openCall}
 use Rattle.sheet.specs.Work.{unchangedOf}
 use Rattle.sheet.specs.declared.Said.{Said}
-use Rattle.sheet.specs.declared.Said.the-variants.{Letter as SaidLetter, Limits as SaidLimits, PutIn as SaidPutIn, TakeOut as SaidTakeOut, Opened, No}
+use Rattle.sheet.specs.declared.Said.the-variants.{Letter as SaidLetter, Kind as SaidKind, Lengths as SaidLengths, PutIn as SaidPutIn, TakeOut as SaidTakeOut, Opened, No}
 use Rattle.sheet.specs.declared.Sheet.{Sheet}
 use Rattle.sheet.specs.declared.Reply.{Reply}
 use Rattle.sheet.proofs.Within.{bounds}
@@ -37,7 +37,8 @@ use Rattle.sheet.proofs.Within.{bounds}
 -- What a refusal says is zeros beside its number, whatever the call.
 said-zeros : (w : Said) → (numberOf w ≡ 0 → ⊥) → valuesOf w ≡ 0 ∷ 0 ∷ 0 ∷ 0 ∷ []
 said-zeros (SaidLetter p old new k) n = absurd (n refl)
-said-zeros (SaidLimits l k) n = absurd (n refl)
+said-zeros (SaidKind l k) n = absurd (n refl)
+said-zeros (SaidLengths l k) n = absurd (n refl)
 said-zeros (SaidPutIn p b m k) n = absurd (n refl)
 said-zeros (SaidTakeOut p b m k) n = absurd (n refl)
 said-zeros (Opened k) n = absurd (n refl)
@@ -53,6 +54,18 @@ module _ (faults : List (ℕ × Bool)) (s : Sheet) (accepted : Reply) where
   unfolding answered
   answer-yes e = simp (eq-eqb _ _ (sym e))
 
+  -- what holds of a refusal by it, and of what is accepted where there is none, holds of the reply; so the number said is the first fault's
+  pub answered-either : (P : Reply → Type 0) → ((firstFault faults ≡ 0 → ⊥) → P (refusing s (firstFault faults))) → (0 ≡ firstFault faults → P accepted) → P (answered faults s accepted)
+  unfolding answered
+  answered-either P refused made = go (eqb (firstFault faults) 0) refl
+    where
+      go : (t : Bool) → eqb (firstFault faults) 0 ≡ t → P (cond t accepted (refusing s (firstFault faults)))
+      go true e = made (sym (eqb-true _ _ e))
+      go false e = refused (eqb-false _ _ e)
+
+  pub number-is : numberOf (accepted .said) ≡ 0 → numberOf (answered faults s accepted .said) ≡ firstFault faults
+  number-is z = answered-either (λ r. numberOf (r .said) ≡ firstFault faults) (λ _. refl) (λ e. z ∙ e)
+
   pub call-refused : (k : ℕ) → k ≡ firstFault faults → (k ≡ 0 → ⊥) → (r : Reply) → r ≡ refusing s k → CallReply faults (answered faults s accepted) r
   call-refused k e n r q = record { whole = q ∙ sym (answer-no k e n); number = ap (λ (x : Reply). numberOf (x .said)) q ∙ e; zeros = said-zeros (r .said) }
 
@@ -60,19 +73,20 @@ module _ (faults : List (ℕ × Bool)) (s : Sheet) (accepted : Reply) where
   call-accepted e r q z = record { whole = q ∙ sym (answer-yes e); number = ap (λ (x : Reply). numberOf (x .said)) q ∙ z ∙ e; zeros = said-zeros (r .said) }
 
 -- No change is said back as a refusal.
-said-accepted : (c : Change) (n k : ℕ) → numberOf (saidOf c n k) ≡ 0
-said-accepted (Letter p old new) n k = refl
-said-accepted (ChangedLimits old new) n k = refl
-said-accepted (PutIn p b) n k = refl
-said-accepted (TakeOut p b) n k = refl
+said-accepted : (c : Change) (n k : ℕ) (l : Limits) → numberOf (saidOf c n k l) ≡ 0
+said-accepted (Letter p old new) n k l = refl
+said-accepted (Kind k₀ d₀ kind d) n k l = refl
+said-accepted (Lengths m₀ g₀ m g) n k l = refl
+said-accepted (PutIn p b) n k l = refl
+said-accepted (TakeOut p b) n k l = refl
 
 pub applied-accepted : (s : Sheet) (e : Edit) (st tk : ℕ) → numberOf (applied s e st tk .said) ≡ 0
 unfolding applied
-applied-accepted s e st tk = said-accepted (replacing e (s .letters) (s .limits)) (lengthBy e (s .n)) st
+applied-accepted s e st tk = said-accepted (replacing e (s .letters) (s .limits)) (lengthBy e (s .n)) st (limitsBy e (s .limits))
 
 pub changed-accepted : (s : Sheet) (e : Edit) → numberOf (changed s e .said) ≡ 0
 unfolding changed
-changed-accepted s e = said-accepted (replacing e (s .letters) (s .limits)) (lengthBy e (s .n)) (s .standing + 1)
+changed-accepted s e = said-accepted (replacing e (s .letters) (s .limits)) (lengthBy e (s .n)) (s .standing + 1) (limitsBy e (s .limits))
 
 -- The faults of a call for a change, of whatever kind: j is the number of what it refuses of the edit.
 module _ (s : Sheet) (e : Edit) where
@@ -102,13 +116,13 @@ module _ (s : Sheet) (e : Edit) where
       change-0 k = later 0 (simp k)
 
   -- what it may count on where no fault holds
-  pub change-sound : 0 ≡ firstFault (changeFaults s e) → (s .n ≤ 1000) × (accepts (s .n) (s .alphabet) e ≡ true) × (s .standing < 64)
+  pub change-sound : 0 ≡ firstFault (changeFaults s e) → (inBounds s ≡ true) × (accepts (s .n) (s .alphabet) e ≡ true) × (s .standing < 64)
   unfolding changeFaults
   change-sound f =
       let a = passed 24 (not (inBounds s)) (own ++ (7, leb 64 (s .standing)) ∷ []) (omega arith) (sym f) in
       let c = fault-none own ((7, leb 64 (s .standing)) ∷ []) (edit-numbered (s .n) (s .alphabet) e) (a .1) in
       let d = passed 7 (leb 64 (s .standing)) [] (omega arith) (c .1) in
-      (bounds s (not-off _ (a .0)) .letters, none-accepts (s .n) (s .alphabet) e (c .0), leb-false _ _ (d .0))
+      (not-off _ (a .0), none-accepts (s .n) (s .alphabet) e (c .0), leb-false _ _ (d .0))
 
 -- In bounds take-back and put-again are refused as popping is.
 module _ (s : Sheet) where

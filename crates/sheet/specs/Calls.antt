@@ -1,4 +1,4 @@
--- What each call on a sheet replies: the sheet afterwards and what is said (01, "The sheet").
+-- What each call on a sheet replies: the sheet afterwards and what is said (01, "The sheet"; 02, L5 and L6).
 use mathlib.Core.Path.{_≡_}
 use mathlib.Core.Bool.{Bool, not, cond}
 use mathlib.Core.List.{List, [], _∷_, _++_}
@@ -12,23 +12,24 @@ use Rattle.terms.specs.Texts.{Text, textAll, openingFaults}
 use Rattle.terms.specs.declared.limits.Limits.{Limits}
 use Rattle.changes.specs.Changes.{doneOf, backOf, lengthBy, limitsBy, editFaults}
 use Rattle.changes.specs.declared.Change.{Change}
-use Rattle.changes.specs.declared.Change.the-variants.{Letter as ChangedLetter, Limits as ChangedLimits, PutIn as DidPutIn, TakeOut as DidTakeOut}
+use Rattle.changes.specs.declared.Change.the-variants.{Letter as ChangedLetter, Kind as DidKind, Lengths as DidLengths, PutIn as DidPutIn, TakeOut as DidTakeOut}
 use Rattle.changes.specs.declared.Edit.{Edit}
-use Rattle.changes.specs.declared.Edit.the-variants.{Letter as EditLetter, Limits as EditLimits, PutIn as EditPutIn, TakeOut as EditTakeOut}
+use Rattle.changes.specs.declared.Edit.the-variants.{Letter as EditLetter, Kind as EditKind, Lengths as EditLengths, PutIn as EditPutIn, TakeOut as EditTakeOut}
 use Rattle.shifts.specs.Shifts.{lettersBy, replacing}
 use Rattle.kept.specs.Lists.{noChange, keptAt}
 use Rattle.kept.specs.declared.Kept.{Kept}
 use Rattle.places.specs.Places.{padded}
 use Rattle.sheet.specs.Bounds.{inBounds}
 use Rattle.sheet.specs.declared.Said.{Said}
-use Rattle.sheet.specs.declared.Said.the-variants.{Letter as SaidLetter, Limits as SaidLimits, PutIn as SaidPutIn, TakeOut as SaidTakeOut, Opened, No}
+use Rattle.sheet.specs.declared.Said.the-variants.{Letter as SaidLetter, Kind as SaidKind, Lengths as SaidLengths, PutIn as SaidPutIn, TakeOut as SaidTakeOut, Opened, No}
 use Rattle.sheet.specs.declared.Sheet.{Sheet}
 use Rattle.sheet.specs.declared.Reply.{Reply}
 
 -- 01's number of what is said, 0 where the call was accepted; and its values in 01's order, zeros on a refusal.
 abbrev pub numberOf : Said → ℕ
 numberOf (SaidLetter p old new k) = 0
-numberOf (SaidLimits l k) = 0
+numberOf (SaidKind l k) = 0
+numberOf (SaidLengths l k) = 0
 numberOf (SaidPutIn p b n k) = 0
 numberOf (SaidTakeOut p b n k) = 0
 numberOf (Opened n) = 0
@@ -36,7 +37,8 @@ numberOf (No k) = k
 
 abbrev pub valuesOf : Said → List ℕ
 valuesOf (SaidLetter p old new k) = p ∷ old ∷ new ∷ k ∷ []
-valuesOf (SaidLimits l k) = l .kind ∷ l .m ∷ l .g ∷ l .d ∷ k ∷ []
+valuesOf (SaidKind l k) = l .kind ∷ l .m ∷ l .g ∷ l .d ∷ k ∷ []
+valuesOf (SaidLengths l k) = l .kind ∷ l .m ∷ l .g ∷ l .d ∷ k ∷ []
 valuesOf (SaidPutIn p b n k) = p ∷ b ∷ n ∷ k ∷ []
 valuesOf (SaidTakeOut p b n k) = p ∷ b ∷ n ∷ k ∷ []
 valuesOf (Opened n) = n ∷ 0 ∷ []
@@ -56,12 +58,13 @@ pub record CallReply (faults : List (ℕ × Bool)) (reply r : Reply) : Type 0 wh
   pub number : numberOf (r .said) ≡ firstFault faults
   pub zeros : (numberOf (r .said) ≡ 0 → ⊥) → valuesOf (r .said) ≡ 0 ∷ 0 ∷ 0 ∷ 0 ∷ []
 
--- What is said of a change that leaves n letters and k standing: place, letter replaced, letter now there; or the limits in force; or place, letter put in or taken out, n.
-abbrev pub saidOf : Change → ℕ → ℕ → Said
-saidOf (ChangedLetter p old new) n k = SaidLetter p old new k
-saidOf (ChangedLimits old new) n k = SaidLimits new k
-saidOf (DidPutIn p b) n k = SaidPutIn p b n k
-saidOf (DidTakeOut p b) n k = SaidTakeOut p b n k
+-- What is said of a change that leaves n letters, k standing and the limits l: place, letter replaced, letter now there; or all four limits; or place, letter put in or taken out, n.
+abbrev pub saidOf : Change → ℕ → ℕ → Limits → Said
+saidOf (ChangedLetter p old new) n k l = SaidLetter p old new k
+saidOf (DidKind k₀ d₀ kind d) n k l = SaidKind l k
+saidOf (DidLengths m₀ g₀ m g) n k l = SaidLengths l k
+saidOf (DidPutIn p b) n k l = SaidPutIn p b n k
+saidOf (DidTakeOut p b) n k l = SaidTakeOut p b n k
 
 -- An edit made, and said back with the number standing; the kept changes become ks, the two counts st and tk.
 abbrev pub editing : Sheet → Edit → List Kept → ℕ → ℕ → Reply
@@ -78,7 +81,7 @@ editing s e ks st tk =
             standing = st;
             taken = tk;
           };
-      said = saidOf (replacing e (s .letters) (s .limits)) (lengthBy e (s .n)) st;
+      said = saidOf (replacing e (s .letters) (s .limits)) (lengthBy e (s .n)) st (limitsBy e (s .limits));
     }
 
 -- An edit made over the same kept changes.
@@ -117,12 +120,19 @@ takeOutFaults s p = changeFaults s (EditTakeOut p)
 abbrev pub takeOutCall : Sheet → ℕ → Reply
 takeOutCall s p = changeCall s (EditTakeOut p)
 
--- Limits: 4, 5, 7.
-abbrev pub limitsCallFaults : Sheet → Limits → List (ℕ × Bool)
-limitsCallFaults s l = changeFaults s (EditLimits l)
+-- Kind and d: 4, 5, 7.
+abbrev pub kindCallFaults : Sheet → ℕ → ℕ → List (ℕ × Bool)
+kindCallFaults s kind d = changeFaults s (EditKind kind d)
 
-abbrev pub limitsCall : Sheet → Limits → Reply
-limitsCall s l = changeCall s (EditLimits l)
+abbrev pub kindCall : Sheet → ℕ → ℕ → Reply
+kindCall s kind d = changeCall s (EditKind kind d)
+
+-- m and g: 5, 7.
+abbrev pub lengthsCallFaults : Sheet → ℕ → ℕ → List (ℕ × Bool)
+lengthsCallFaults s m g = changeFaults s (EditLengths m g)
+
+abbrev pub lengthsCall : Sheet → ℕ → ℕ → Reply
+lengthsCall s m g = changeCall s (EditLengths m g)
 
 -- The newest standing change, and the one taken back last.
 abbrev pub newestOf : Sheet → Change

@@ -22,7 +22,7 @@ ghost use Rattle.terms.specs.Sizes.{mostChanges};
 ghost use Rattle.terms.specs.Refusals.{firstFault};
 ghost use Rattle.terms.specs.Texts.{text, openingFaults};
 ghost use Rattle.changes.specs.Work.{fits};
-ghost use Rattle.sheet.specs.Calls.{refusing, CallReply, saidOf, applied, changed, changeFaults, changeCall, letterFaults, putInFaults, takeOutFaults, limitsCallFaults, takeBackFaults, putAgainFaults, letterCall, putInCall, takeOutCall, limitsCall, takeBackCall, putAgainCall, blankSheet, openCall};
+ghost use Rattle.sheet.specs.Calls.{refusing, CallReply, saidOf, applied, changed, changeFaults, changeCall, letterFaults, putInFaults, takeOutFaults, kindCallFaults, lengthsCallFaults, takeBackFaults, putAgainFaults, letterCall, putInCall, takeOutCall, kindCall, lengthsCall, takeBackCall, putAgainCall, blankSheet, openCall};
 ghost use Rattle.sheet.specs.Question.{SheetReply};
 ghost use Rattle.sheet.specs.Work.{unchangedOf};
 
@@ -34,7 +34,11 @@ pub enum Said {
         new: u8,
         standing: usize,
     },
-    Limits {
+    Kind {
+        now: Limits,
+        standing: usize,
+    },
+    Lengths {
         now: Limits,
         standing: usize,
     },
@@ -59,9 +63,9 @@ pub enum Said {
 }
 
 impl Said {
-    // What is said back of a change that leaves n letters, with the number standing.
-    fn of(c: Change, n: usize, standing: usize) -> Said
-        ensures { λ r. ⌜ r ≡ saidOf c n standing ⌝ }
+    // What is said back of a change that leaves n letters and the limits now in force, with the number standing.
+    fn of(c: Change, n: usize, standing: usize, now: Limits) -> Said
+        ensures { λ r. ⌜ r ≡ saidOf c n standing now ⌝ }
     {
         match c {
             Change::Letter { place, old, new } => Said::Letter {
@@ -70,7 +74,18 @@ impl Said {
                 new,
                 standing,
             },
-            Change::Limits { old: _, new } => Said::Limits { now: new, standing },
+            Change::Kind {
+                old_kind: _,
+                old_d: _,
+                kind: _,
+                d: _,
+            } => Said::Kind { now, standing },
+            Change::Lengths {
+                old_m: _,
+                old_g: _,
+                m: _,
+                g: _,
+            } => Said::Lengths { now, standing },
             Change::PutIn { place, byte } => Said::PutIn {
                 place,
                 byte,
@@ -195,7 +210,8 @@ impl Sheet {
         let n_after = e.length_after(n);
         let letters_after = edited(letters, n, e);
         let limits_after = e.limits_after(limits);
-        let said = Said::of(replaced(letters, limits, e), n_after, standing);
+        let c = replaced(letters, limits, e);
+        let said = Said::of(c, n_after, standing, limits_after);
         let mut next = self;
         next.letters = letters_after;
         next.n = n_after;
@@ -279,11 +295,18 @@ impl Sheet {
         self.ask(Edit::TakeOut { place })
     }
 
-    // Puts all limits at once.
-    pub fn put_limits(self, limits: Limits) -> Reply
-        ensures { λ r. ⌜ CallReply (limitsCallFaults self limits) (limitsCall self limits) r ⌝ }
+    // Puts kind and error limit; shortest length and gap limit stay.
+    pub fn put_kind(self, kind: usize, d: usize) -> Reply
+        ensures { λ r. ⌜ CallReply (kindCallFaults self kind d) (kindCall self kind d) r ⌝ }
     {
-        self.ask(Edit::Limits { limits })
+        self.ask(Edit::Kind { kind, d })
+    }
+
+    // Puts shortest length and gap limit; kind and error limit stay.
+    pub fn put_lengths(self, m: usize, g: usize) -> Reply
+        ensures { λ r. ⌜ CallReply (lengthsCallFaults self m g) (lengthsCall self m g) r ⌝ }
+    {
+        self.ask(Edit::Lengths { m, g })
     }
 
     // Takes the newest standing change back.

@@ -6,14 +6,15 @@ use native.Mathlib.Omega.{arith}
 use borrow.Author.Tests.{ltb-true, lt-ltb}
 use Rattle.changes.specs.Work.{fits}
 use Rattle.changes.specs.declared.Edit.{Edit}
-use Rattle.changes.specs.declared.Edit.the-variants.{Letter, Limits, PutIn, TakeOut}
+use Rattle.changes.specs.declared.Edit.the-variants.{Letter, Kind, Lengths, PutIn, TakeOut}
 use Rattle.changes.proofs.Accepting.{fits-letter, fits-out}
 use Rattle.shifts.specs.Work.{inPlaces}
 
 pub fits-places : (n : ℕ) (e : Edit) → n ≤ 1000 → fits n e ≡ true → inPlaces e ≡ true
 unfolding inPlaces
 fits-places n (Letter p b) h f = let k = fits-letter n p b f in lt-ltb p 1000 (omega arith)
-fits-places n (Limits l) h f = refl
+fits-places n (Kind k d) h f = refl
+fits-places n (Lengths m g) h f = refl
 fits-places n (PutIn p b) h f = refl
 fits-places n (TakeOut p) h f = let k = fits-out n p f in lt-ltb p 1000 (omega arith)
 

@@ -6,7 +6,7 @@ use lib.Dec.{ltb}
 use lib.ListN.{take, drop}
 use Rattle.terms.specs.Sizes.{mostLetters}
 use Rattle.changes.specs.declared.Edit.{Edit}
-use Rattle.changes.specs.declared.Edit.the-variants.{Letter, Limits, PutIn, TakeOut}
+use Rattle.changes.specs.declared.Edit.the-variants.{Letter, Kind, Lengths, PutIn, TakeOut}
 
 -- The places from i to n - 1 are one further up, and v stands at place i.
 unfoldable pub upFrom : List ℕ → ℕ → ℕ → ℕ → List ℕ
@@ -19,6 +19,7 @@ downTo a p i v = (take p a ++ take (i - p) (drop (suc p) a)) ++ v ∷ drop (suc 
 -- The letter that an edit replaces or takes out stands at one of the 1,000 places.
 unfoldable pub inPlaces : Edit → Bool
 inPlaces (Letter p b) = ltb p mostLetters
-inPlaces (Limits l) = true
+inPlaces (Kind k d) = true
+inPlaces (Lengths m g) = true
 inPlaces (PutIn p b) = true
 inPlaces (TakeOut p) = ltb p mostLetters

@@ -53,7 +53,8 @@ pub fn edited(letters: [u8; LETTERS], n: usize, e: Edit) -> [u8; LETTERS]
             a[place] = byte;
             a
         }
-        Edit::Limits { limits: _ } => letters,
+        Edit::Kind { kind: _, d: _ } => letters,
+        Edit::Lengths { m: _, g: _ } => letters,
         Edit::PutIn { place, byte } => put_in(letters, n, place, byte),
         Edit::TakeOut { place } => take_out(letters, n, place),
     }
@@ -73,9 +74,17 @@ pub fn replaced(letters: [u8; LETTERS], limits: Limits, e: Edit) -> Change
                 new: byte,
             }
         }
-        Edit::Limits { limits: asked } => Change::Limits {
-            old: limits,
-            new: asked,
+        Edit::Kind { kind, d } => Change::Kind {
+            old_kind: limits.kind,
+            old_d: limits.d,
+            kind,
+            d,
+        },
+        Edit::Lengths { m, g } => Change::Lengths {
+            old_m: limits.m,
+            old_g: limits.g,
+            m,
+            g,
         },
         Edit::PutIn { place, byte } => Change::PutIn { place, byte },
         Edit::TakeOut { place } => {

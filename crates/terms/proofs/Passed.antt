@@ -8,17 +8,17 @@ use native.Mathlib.Omega.{arith}
 use borrow.Author.Tests.{ltb-false, eqb-true, eqb-false, eq-eqb}
 use lib.Dec.{eqb, ltb}
 use lib.ListN.{length, getD, List·getD-eq-default}
-use Rattle.terms.specs.Sizes.{mostLetters, mostGaps, mostErrors}
+use Rattle.terms.specs.Sizes.{mostLetters, mostErrors}
 use Rattle.terms.specs.Refusals.{firstFault}
 use Rattle.terms.specs.Maps.{mapFaults, ownInverse}
 use Rattle.terms.specs.Alphabets.{isIn, allBytes, closedUnder, spelt, alphabetFaults}
-use Rattle.terms.specs.Limits.{wrongKind, tooManyErrors, outOfRange, limitsFaults}
+use Rattle.terms.specs.Limits.{wrongKind, tooManyErrors, kindOutOfRange, lengthsOutOfRange, kindFaults, lengthsFaults, limitsFaults}
 use Rattle.terms.specs.Texts.{Text, text, size, stringFaults, textFaults, openingFaults}
 use Rattle.terms.specs.Passed.{SoundString, SoundText, SoundLimits}
 use Rattle.terms.specs.declared.limits.Limits.{Limits}
 use Rattle.terms.proofs.Order.{le-or-lt}
 use Rattle.terms.proofs.Below.{and-left, or-left, or-right, below-at}
-use Rattle.terms.proofs.Refusals.{false-true, fault-none, string-numbered, text-numbered}
+use Rattle.terms.proofs.Refusals.{false-true, fault-none, string-numbered, limits-parts, opening-parts}
 use Rattle.terms.proofs.Supplied.{comes-back, all-long, all-in}
 
 -- a test that a list of refusals passed, and the rest of the list
@@ -93,13 +93,13 @@ sound-bytes x a k =
     (le-or-lt (size x) k)
 
 pub sound-limits : (l : Limits) → firstFault (limitsFaults l) ≡ 0 → SoundLimits l
-unfolding limitsFaults wrongKind outOfRange tooManyErrors
+unfolding kindFaults lengthsFaults wrongKind kindOutOfRange lengthsOutOfRange tooManyErrors
 sound-limits l e =
-    let a = passed 4 (wrongKind l) ((5, outOfRange l) ∷ []) (omega arith) e in
-    let b = passed 5 (outOfRange l) [] (omega arith) (a .1) .0 in
+    let (p, q) = limits-parts l e in
+    let a = passed 4 (wrongKind (l .kind)) ((5, kindOutOfRange (l .kind) (l .d)) ∷ []) (omega arith) p in
+    let h = passed 5 (kindOutOfRange (l .kind) (l .d)) [] (omega arith) (a .1) .0 in
+    let b = passed 5 (lengthsOutOfRange (l .m) (l .g)) [] (omega arith) q .0 in
     let c = or-right (eqb (l .m) 0) _ b in
-    let d = or-right (ltb mostLetters (l .m)) _ c in
-    let h = or-right (ltb mostGaps (l .g)) _ d in
     let i = or-right (ltb mostErrors (l .d)) _ h in
     let z : l .m ≡ 0 → ⊥ = eqb-false _ _ (or-left (eqb (l .m) 0) _ b) in
     record {
@@ -108,7 +108,7 @@ sound-limits l e =
           (or-either (eqb (l .kind) 1) (eqb (l .kind) 2) (not-off _ (a .0)));
       some = omega arith;
       short = ltb-false _ _ (or-left (ltb mostLetters (l .m)) _ c);
-      few = ltb-false _ _ (or-left (ltb mostGaps (l .g)) _ d);
+      few = ltb-false _ _ (or-right (ltb mostLetters (l .m)) _ c);
       near = ltb-false _ _ (or-left (ltb mostErrors (l .d)) _ h);
       exact = λ k. eqb-true _ _ (not-off _ (and-off (eqb (l .kind) 1) _ i (one-is (l .kind) k)));
     }
@@ -118,6 +118,4 @@ sound-limits l e =
 
 -- Both halves of an opening that is accepted.
 pub sound-opening : (x : Text) (l : Limits) → firstFault (openingFaults x l) ≡ 0 → SoundText x × SoundLimits l
-unfolding openingFaults
-sound-opening x l e =
-    let h = fault-none (textFaults x) (limitsFaults l) (text-numbered x) e in (sound-text x (h .0), sound-limits l (h .1))
+sound-opening x l e = let h = opening-parts x l e in (sound-text x (h .0), sound-limits l (h .1))

@@ -1,6 +1,6 @@
 -- The first fault of a list is one number; lists one after the other; a list of tests. Assumes nothing.
 use mathlib.Core.Path.{_≡_, refl, sym, ap, _∙_}
-use mathlib.Core.Bool.{Bool, true, false, _||_}
+use mathlib.Core.Bool.{Bool, true, false, cond, _||_}
 use mathlib.Core.List.{List, [], _∷_, _++_}
 use mathlib.Core.Logic.{_⊎_, inl, inr, ⊎-elim}
 use Prim.Native.Nat.{ℕ, _<_}
@@ -11,7 +11,7 @@ use Rattle.terms.proofs.Below.{or-left, or-right}
 use Rattle.terms.specs.Refusals.{firstFault, FirstFault, tested, OneOf}
 use Rattle.terms.specs.Maps.{mapFaults}
 use Rattle.terms.specs.Alphabets.{alphabetFaults}
-use Rattle.terms.specs.Limits.{limitsFaults}
+use Rattle.terms.specs.Limits.{wrongKind, kindOutOfRange, lengthsOutOfRange, outOfRange, kindFaults, lengthsFaults, limitsFaults}
 use Rattle.terms.specs.Texts.{Text, tooLong, stringFaults, textFaults, pairFaults, openingFaults}
 use Rattle.terms.specs.declared.limits.Limits.{Limits}
 
@@ -144,6 +144,46 @@ pub limits-numbered : (l : Limits) → Numbered (limitsFaults l)
 unfolding limitsFaults
 limits-numbered l = (omega arith, (omega arith, tt))
 
+pub kind-numbered : (kind d : ℕ) → Numbered (kindFaults kind d)
+unfolding kindFaults
+kind-numbered kind d = (omega arith, (omega arith, tt))
+
+pub lengths-numbered : (m g : ℕ) → Numbered (lengthsFaults m g)
+unfolding lengthsFaults
+lengths-numbered m g = (omega arith, tt)
+
+-- the limits' list taken apart: its refusal is that of kind and d, or else that of m and g
+module _ (l : Limits) where
+  abbrev ofKind : List (ℕ × Bool)
+  ofKind = kindFaults (l .kind) (l .d)
+
+  abbrev ofLengths : List (ℕ × Bool)
+  ofLengths = lengthsFaults (l .m) (l .g)
+
+  pub limits-apart : firstFault (limitsFaults l) ≡ firstFault (ofKind ++ ofLengths)
+  unfolding firstFault limitsFaults outOfRange kindFaults lengthsFaults
+  limits-apart = go (wrongKind (l .kind)) (kindOutOfRange (l .kind) (l .d)) (lengthsOutOfRange (l .m) (l .g))
+    where
+      go : (a b c : Bool) → _≡_ {A = ℕ} (cond a 4 (cond (c || b) 5 0)) (cond a 4 (cond b 5 (cond c 5 0)))
+      go true b c = refl
+      go false true true = refl
+      go false true false = refl
+      go false false true = refl
+      go false false false = refl
+
+  pub kind-refuses : (k : ℕ) → k ≡ firstFault ofKind → (k ≡ 0 → ⊥) → k ≡ firstFault (limitsFaults l)
+  kind-refuses k e z = fault-first ofKind ofLengths k e z ∙ sym limits-apart
+
+  pub kind-passes : (j k : ℕ) → j ≡ firstFault ofKind → j ≡ 0 → k ≡ firstFault ofLengths → k ≡ firstFault (limitsFaults l)
+  kind-passes j k e z q = fault-next ofKind ofLengths (kind-numbered (l .kind) (l .d)) j k e z q ∙ sym limits-apart
+
+  -- so the limits pass exactly when both parts do
+  pub limits-parts : firstFault (limitsFaults l) ≡ 0 → (firstFault ofKind ≡ 0) × (firstFault ofLengths ≡ 0)
+  limits-parts e = fault-none ofKind ofLengths (kind-numbered (l .kind) (l .d)) (sym limits-apart ∙ e)
+
+  pub limits-whole : firstFault ofKind ≡ 0 → firstFault ofLengths ≡ 0 → firstFault (limitsFaults l) ≡ 0
+  limits-whole k m = sym (kind-passes 0 0 (sym k) refl (sym m))
+
 module _ (x : Text) (l : Limits) where
   pub text-refuses : (k : ℕ) → k ≡ firstFault (textFaults x) → (k ≡ 0 → ⊥) → k ≡ firstFault (openingFaults x l)
   unfolding openingFaults
@@ -152,6 +192,11 @@ module _ (x : Text) (l : Limits) where
   pub text-passes : (j k : ℕ) → j ≡ firstFault (textFaults x) → j ≡ 0 → k ≡ firstFault (limitsFaults l) → k ≡ firstFault (openingFaults x l)
   unfolding openingFaults
   text-passes = fault-next (textFaults x) (limitsFaults l) (text-numbered x)
+
+  -- what an opening that is accepted passes: the text's refusals, and the limits'
+  pub opening-parts : firstFault (openingFaults x l) ≡ 0 → (firstFault (textFaults x) ≡ 0) × (firstFault (limitsFaults l) ≡ 0)
+  unfolding openingFaults
+  opening-parts e = fault-none (textFaults x) (limitsFaults l) (text-numbered x) e
 
   pub opening-numbered : Numbered (openingFaults x l)
   unfolding openingFaults

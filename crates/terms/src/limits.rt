@@ -2,7 +2,7 @@
 use crate::LETTERS;
 ghost use mathlib.Core.Path.{_≡_};
 ghost use Rattle.terms.specs.Refusals.{firstFault};
-ghost use Rattle.terms.specs.Limits.{wrongKind, outOfRange, limitsFaults};
+ghost use Rattle.terms.specs.Limits.{wrongKind, kindFaults, lengthsFaults, limitsFaults};
 
 // The most gaps, and the most errors, that a question may allow.
 pub const GAPS: usize = 15;
@@ -17,54 +17,60 @@ pub struct Limits {
     pub d: usize,
 }
 
+// What refusal 4 says.
+fn wrong_kind(kind: usize) -> bool
+    ensures { λ r. ⌜ r ≡ wrongKind kind ⌝ }
+{
+    if kind == 1 {
+        return false;
+    }
+    kind != 2
+}
+
+// The first refusal that kind and error limit meet, 0 where they meet none.
+pub fn kind_refusal(kind: usize, d: usize) -> usize
+    ensures { λ r. ⌜ r ≡ firstFault (kindFaults kind d) ⌝ }
+{
+    if wrong_kind(kind) {
+        return 4;
+    }
+    if ERRORS < d {
+        return 5;
+    }
+    if kind != 1 {
+        return 0;
+    }
+    if d != 0 {
+        return 5;
+    }
+    0
+}
+
+// The first refusal that shortest length and gap limit meet, 0 where they meet none.
+pub fn lengths_refusal(m: usize, g: usize) -> usize
+    ensures { λ r. ⌜ r ≡ firstFault (lengthsFaults m g) ⌝ }
+{
+    if m == 0 {
+        return 5;
+    }
+    if LETTERS < m {
+        return 5;
+    }
+    if GAPS < g {
+        return 5;
+    }
+    0
+}
+
 impl Limits {
-    // What refusal 4 says.
-    fn wrong_kind(self) -> bool
-        ensures { λ r. ⌜ r ≡ wrongKind self ⌝ }
-    {
-        let kind = self.kind;
-        if kind == 1 {
-            return false;
-        }
-        kind != 2
-    }
-
-    // What refusal 5 says.
-    fn out_of_range(self) -> bool
-        ensures { λ r. ⌜ r ≡ outOfRange self ⌝ }
-    {
-        let kind = self.kind;
-        let m = self.m;
-        let g = self.g;
-        let d = self.d;
-        if m == 0 {
-            return true;
-        }
-        if LETTERS < m {
-            return true;
-        }
-        if GAPS < g {
-            return true;
-        }
-        if ERRORS < d {
-            return true;
-        }
-        if kind != 1 {
-            return false;
-        }
-        d != 0
-    }
-
     // The first refusal that the limits meet, 0 where they meet none.
     pub fn refusal(self) -> usize
         ensures { λ r. ⌜ r ≡ firstFault (limitsFaults self) ⌝ }
     {
-        if self.wrong_kind() {
-            return 4;
+        let number = kind_refusal(self.kind, self.d);
+        if number != 0 {
+            return number;
         }
-        if self.out_of_range() {
-            return 5;
-        }
-        0
+        lengths_refusal(self.m, self.g)
     }
 }

@@ -15,11 +15,11 @@ put-line-requires c κs = search needs
 enum-known-said-2 : tie.Need-enum-known-said-2
 enum-known-said-2 c = search needs
 
-cast-t29 : tie.Need-cast-t29
-cast-t29 c = search needs
-
 cast-t30 : tie.Need-cast-t30
 cast-t30 c = search needs
+
+cast-t31 : tie.Need-cast-t31
+cast-t31 c = search needs
 
 slice-aggregate-put-line-2 : tie.Need-slice-aggregate-put-line-2
 slice-aggregate-put-line-2 c = search needs
@@ -42,20 +42,23 @@ put-shift-requires-2 c κs = search needs
 enum-known-said-5 : tie.Need-enum-known-said-5
 enum-known-said-5 c = search needs
 
+put-limits-requires : tie.Need-put-limits-requires
+put-limits-requires c κs = search needs
+
+enum-known-said-6 : tie.Need-enum-known-said-6
+enum-known-said-6 c = search needs
+
+put-limits-requires-2 : tie.Need-put-limits-requires-2
+put-limits-requires-2 c κs = search needs
+
+enum-known-said-7 : tie.Need-enum-known-said-7
+enum-known-said-7 c = search needs
+
 slice-aggregate-put-line-3 : tie.Need-slice-aggregate-put-line-3
 slice-aggregate-put-line-3 c = search needs
 
 put-line-requires-3 : tie.Need-put-line-requires-3
 put-line-requires-3 c κs = search needs
-
-enum-known-said-6 : tie.Need-enum-known-said-6
-enum-known-said-6 c = search needs
-
-slice-aggregate-put-line-4 : tie.Need-slice-aggregate-put-line-4
-slice-aggregate-put-line-4 c = search needs
-
-put-line-requires-4 : tie.Need-put-line-requires-4
-put-line-requires-4 c κs = search needs
 
 same-length : tie.Need-same-length
 same-length c = search needs
@@ -85,13 +88,19 @@ same-length-5 : tie.Need-same-length-5
 same-length-5 c = search needs
 
 returns-5 : tie.Need-returns-5
-returns-5 c = rw (c .before .before .before .before .before .before .said5 .given .1) (c .before .before .put-line3 .ensures)
+returns-5 c = rw (c .before .before .before .before .before .said5 .given .1) (c .before .before .put-limits .ensures)
 
 same-length-6 : tie.Need-same-length-6
 same-length-6 c = search needs
 
 returns-6 : tie.Need-returns-6
-returns-6 c = rw (c .before .before .before .before .before .before .said6 .given .1) (c .before .before .put-line4 .ensures)
+returns-6 c = rw (c .before .before .before .before .before .said6 .given .1) (c .before .before .put-limits2 .ensures)
+
+same-length-7 : tie.Need-same-length-7
+same-length-7 c = search needs
+
+returns-7 : tie.Need-returns-7
+returns-7 c = rw (c .before .before .before .before .before .before .said7 .given .1) (c .before .before .put-line3 .ensures)
 
 pub put-said-spec : {M : Type 1} → statement M
 put-said-spec =
@@ -101,8 +110,8 @@ put-said-spec =
     slice-aggregate-put-line
     put-line-requires
     enum-known-said-2
-    cast-t29
     cast-t30
+    cast-t31
     slice-aggregate-put-line-2
     put-line-requires-2
     enum-known-said-3
@@ -110,11 +119,12 @@ put-said-spec =
     enum-known-said-4
     put-shift-requires-2
     enum-known-said-5
+    put-limits-requires
+    enum-known-said-6
+    put-limits-requires-2
+    enum-known-said-7
     slice-aggregate-put-line-3
     put-line-requires-3
-    enum-known-said-6
-    slice-aggregate-put-line-4
-    put-line-requires-4
     same-length
     returns
     same-length-2
@@ -126,4 +136,6 @@ put-said-spec =
     same-length-5
     returns-5
     same-length-6
-    returns-6)
+    returns-6
+    same-length-7
+    returns-7)

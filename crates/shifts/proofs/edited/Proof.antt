@@ -16,6 +16,9 @@ array-write-a c = omega (arith, fits-letter _ _ _ (ap (fits _) (sym (c .before .
 enum-told : tie.Need-enum-told
 enum-told c = search needs
 
+enum-told-2 : tie.Need-enum-told-2
+enum-told-2 c = search needs
+
 enum-known-e-2 : tie.Need-enum-known-e-2
 enum-known-e-2 c = search needs
 
@@ -35,10 +38,13 @@ returns-2 : tie.Need-returns-2
 returns-2 c = search needs
 
 returns-3 : tie.Need-returns-3
-returns-3 c = rw (c .before .before .e2 .given .1) (c .put-in .ensures)
+returns-3 c = search needs
 
 returns-4 : tie.Need-returns-4
-returns-4 c = rw (c .before .before .e3 .given .1) (c .take-out .ensures)
+returns-4 c = rw (c .before .before .e2 .given .1) (c .put-in .ensures)
+
+returns-5 : tie.Need-returns-5
+returns-5 c = rw (c .before .before .e3 .given .1) (c .take-out .ensures)
 
 pub edited-spec : {M : Type 1} → statement M
 edited-spec =
@@ -47,6 +53,7 @@ edited-spec =
     enum-known-e
     array-write-a
     enum-told
+    enum-told-2
     enum-known-e-2
     put-in-requires
     enum-known-e-3
@@ -54,4 +61,5 @@ edited-spec =
     returns
     returns-2
     returns-3
-    returns-4)
+    returns-4
+    returns-5)

@@ -22,8 +22,11 @@ enum-known-e-3 c = search needs
 enum-known-e-4 : tie.Need-enum-known-e-4
 enum-known-e-4 c = search needs
 
+enum-known-e-5 : tie.Need-enum-known-e-5
+enum-known-e-5 c = search needs
+
 array-read-byte : tie.Need-array-read-byte
-array-read-byte c = out-inside _ (ap inPlaces (sym (c .before .e4 .given .1)) ∙ c .before .before .before .pre)
+array-read-byte c = out-inside _ (ap inPlaces (sym (c .before .e5 .given .1)) ∙ c .before .before .before .pre)
 
 returns : tie.Need-returns
 unfolding replacing
@@ -41,6 +44,10 @@ returns-4 : tie.Need-returns-4
 unfolding replacing
 returns-4 c = rw (c .before .e4 .given .1)
 
+returns-5 : tie.Need-returns-5
+unfolding replacing
+returns-5 c = rw (c .before .e5 .given .1)
+
 pub replaced-spec : {M : Type 1} → statement M
 replaced-spec =
     tie.close
@@ -50,8 +57,10 @@ replaced-spec =
     enum-known-e-2
     enum-known-e-3
     enum-known-e-4
+    enum-known-e-5
     array-read-byte
     returns
     returns-2
     returns-3
-    returns-4)
+    returns-4
+    returns-5)

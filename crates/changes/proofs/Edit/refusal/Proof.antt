@@ -24,25 +24,31 @@ letter-refusal-requires c κs = search needs
 enum-known-self-2 : tie.Need-enum-known-self-2
 enum-known-self-2 c = search needs
 
-refusal-requires : tie.Need-refusal-requires
-refusal-requires c κs = search needs
+kind-refusal-requires : tie.Need-kind-refusal-requires
+kind-refusal-requires c κs = search needs
 
 enum-known-self-3 : tie.Need-enum-known-self-3
 enum-known-self-3 c = search needs
 
+lengths-refusal-requires : tie.Need-lengths-refusal-requires
+lengths-refusal-requires c κs = search needs
+
+enum-known-self-4 : tie.Need-enum-known-self-4
+enum-known-self-4 c = search needs
+
 returns-2 : tie.Need-returns-2
 unfolding editFaults firstFault
-returns-2 c = rw (c .before .before .self3 .given .1, lt-ltb _ _ (c .if2 .taken))
+returns-2 c = rw (c .before .before .self4 .given .1, lt-ltb _ _ (c .if2 .taken))
 
 returns-3 : tie.Need-returns-3
 unfolding editFaults firstFault
-returns-3 c = rw (c .before .before .before .self3 .given .1) (simp (le-ltb _ _ (c .before .if2 .left), le-leb _ _ (c .if3 .taken)))
+returns-3 c = rw (c .before .before .before .self4 .given .1) (simp (le-ltb _ _ (c .before .if2 .left), le-leb _ _ (c .if3 .taken)))
 
 letter-refusal-requires-2 : tie.Need-letter-refusal-requires-2
 letter-refusal-requires-2 c κs = search needs
 
-enum-known-self-4 : tie.Need-enum-known-self-4
-enum-known-self-4 c = search needs
+enum-known-self-5 : tie.Need-enum-known-self-5
+enum-known-self-5 c = search needs
 
 place-refusal-requires-2 : tie.Need-place-refusal-requires-2
 place-refusal-requires-2 c κs = search needs
@@ -53,15 +59,19 @@ returns-4 c = rw (c .before .before .before .before .self .given .1) (fault-next
 
 returns-5 : tie.Need-returns-5
 unfolding editFaults
-returns-5 c = rw (c .before .before .self2 .given .1) (c .refusal .ensures)
+returns-5 c = rw (c .before .before .self2 .given .1) (c .kind-refusal .ensures)
 
 returns-6 : tie.Need-returns-6
-unfolding editFaults firstFault
-returns-6 c = rw (c .before .before .before .before .self3 .given .1) (simp (le-ltb _ _ (c .before .before .if2 .left), lt-leb _ _ (c .before .if3 .left)) (c .letter-refusal2 .ensures))
+unfolding editFaults
+returns-6 c = rw (c .before .before .self3 .given .1) (c .lengths-refusal .ensures)
 
 returns-7 : tie.Need-returns-7
+unfolding editFaults firstFault
+returns-7 c = rw (c .before .before .before .before .self4 .given .1) (simp (le-ltb _ _ (c .before .before .if2 .left), lt-leb _ _ (c .before .if3 .left)) (c .letter-refusal2 .ensures))
+
+returns-8 : tie.Need-returns-8
 unfolding editFaults
-returns-7 c = rw (c .before .before .self4 .given .1) (c .place-refusal2 .ensures)
+returns-8 c = rw (c .before .before .self5 .given .1) (c .place-refusal2 .ensures)
 
 pub refusal-spec : {M : Type 1} → statement M
 refusal-spec =
@@ -72,14 +82,17 @@ refusal-spec =
     returns
     letter-refusal-requires
     enum-known-self-2
-    refusal-requires
+    kind-refusal-requires
     enum-known-self-3
+    lengths-refusal-requires
+    enum-known-self-4
     returns-2
     returns-3
     letter-refusal-requires-2
-    enum-known-self-4
+    enum-known-self-5
     place-refusal-requires-2
     returns-4
     returns-5
     returns-6
-    returns-7)
+    returns-7
+    returns-8)

@@ -1,8 +1,8 @@
--- `Limits::wrong_kind` meets its contract. Assumes nothing.
+-- `wrong_kind` meets its contract. Assumes nothing.
 use borrow.Author.Tests.{eq-eqb, ne-eqb}
 use Rattle.terms.specs.Limits.{wrongKind}
-use Rattle.terms.proofs.limits.Limits.wrong_kind.Statement.{statement}
-use Rattle.terms.proofs.limits.Limits.wrong_kind.Tie as tie
+use Rattle.terms.proofs.limits.wrong_kind.Statement.{statement}
+use Rattle.terms.proofs.limits.wrong_kind.Tie as tie
 
 returns : tie.Need-returns
 unfolding wrongKind
