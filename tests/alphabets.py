@@ -4,6 +4,7 @@ where odd spans are no palindromes."""
 
 import itertools
 
+import palindromes
 import second
 from damage import ALPHABET_WAYS, FILE_WAYS, Returned, other_tiling
 from drawing import (
@@ -85,7 +86,7 @@ def whole_lines(source, pair, parity):
     limits = [2, source.choice([1, max(n, 1)]), 0, 15]
     file = b""
     if n > 0:
-        errors = second.error_count(string, usable_map(map_name))
+        errors = palindromes.error_count(string, usable_map(map_name))
         file = second.record_of((second.PIECE, 0, n, errors))
     tiling = [*limits, map_name, alphabet, table_entries(string, 0), 6, string]
     return [

@@ -6,22 +6,19 @@
 
 Each COMMAND runs a program under test on standard input and output. Seeded
 scripts are sent to it, and each reply is compared byte for byte with that of
-tests/second.py; where 01, requests L1 to L6 or their readings settle the
-answer, also with a text written by hand. Scripts over maps and alphabets, and
-those with letters put in and taken out or with limits set, have to show all
-that can come of them. --long does ten times as much. --spoil flips one byte of
-each program's output, to show that the comparison can fail. The last line is
-'N passed, M failed', and the exit status is 0 only where nothing failed.
+tests/second.py; where 01, requests L1 to L7 or their readings settle the
+answer, also with a text written by hand. Scripts over maps and alphabets,
+those with letters put in and taken out or with limits set, and those with
+shuffled palindromes have to show all that can come of them. --long does ten
+times as much. --spoil flips one byte of each program's output, to show that
+the comparison can fail. The last line is 'N passed, M failed', and the exit
+status is 0 only where nothing failed.
 """
 
 import argparse
-import os
 import random
-import select
 import shlex
-import subprocess
 import sys
-import threading
 import time
 
 # Keeps the tests' directory free of compiled files.
@@ -30,6 +27,7 @@ import alphabets  # noqa: E402
 import calls  # noqa: E402
 import places  # noqa: E402
 import second  # noqa: E402
+import shuffles  # noqa: E402
 import stops  # noqa: E402
 from alphabet_texts import (  # noqa: E402
     ALPHABET_LINES, ALPHABET_READINGS, CALLS_WITH_ALL_BYTES, INSPECT_EXAMPLES)
@@ -41,8 +39,14 @@ from drawing import (  # noqa: E402
 from limit_texts import LIMIT_READINGS  # noqa: E402
 from limits import GROUPS as LIMIT_GROUPS, in_turn_lines  # noqa: E402
 from map_texts import MAP_READINGS  # noqa: E402
+from mishearing import (  # noqa: E402
+    misheard, misheard_sample, refused_long_opening, wrong_line)
 from place_texts import PLACE_READINGS  # noqa: E402
 from selfcheck import small_strings  # noqa: E402
+from sending import SENDERS  # noqa: E402
+from shuffle_texts import (  # noqa: E402
+    CALLS_WITHOUT_SHUFFLES, SHUFFLE_EXAMPLES, SHUFFLE_LINES, SHUFFLE_READINGS,
+    SHUFFLE_REFUSALS)
 from stop_texts import (  # noqa: E402
     CALLS_WITHOUT_STOPS, STOP_EXAMPLES, STOP_LINES, STOP_READINGS,
     STOP_REFUSALS)
@@ -51,8 +55,6 @@ from texts import (  # noqa: E402
     EXAMPLE_INPUT, EXAMPLE_OUTPUT, LINE_READINGS, READER_READINGS,
     READ_BACK_CALLS, READ_BACK_INSPECTIONS, TILING_READINGS)
 
-RUN_LIMIT_SECONDS = 600
-TURN_LIMIT_SECONDS = 20
 SHRINK_LIMIT_SECONDS = 60
 SHOWN_BYTES = 1500
 
@@ -116,128 +118,6 @@ class Program:
         return output, trouble
 
 
-# Ways to send a script.
-
-def trouble_of_status(status):
-    return None if status == 0 else "exit status %d" % status
-
-
-def send_whole(command, script, _replies):
-    try:
-        done = subprocess.run(command, input=script.data(),
-                              stdout=subprocess.PIPE,
-                              timeout=RUN_LIMIT_SECONDS)
-    except subprocess.TimeoutExpired as late:
-        return late.stdout or b"", "not done in %d s" % RUN_LIMIT_SECONDS
-    return done.stdout, trouble_of_status(done.returncode)
-
-
-def start(command):
-    return subprocess.Popen(
-        command, stdin=subprocess.PIPE, stdout=subprocess.PIPE)
-
-
-def close_input(process):
-    try:
-        process.stdin.close()
-    except BrokenPipeError:
-        pass
-
-
-def write_piece(process, piece):
-    """False where the program no longer reads."""
-    try:
-        process.stdin.write(piece)
-        process.stdin.flush()
-        return True
-    except BrokenPipeError:
-        return False
-
-
-def end(process):
-    try:
-        return trouble_of_status(process.wait(RUN_LIMIT_SECONDS))
-    except subprocess.TimeoutExpired:
-        process.kill()
-        process.wait()
-        return "not ended in %d s" % RUN_LIMIT_SECONDS
-
-
-def send_pieces(command, pieces, pause_seconds):
-    process = start(command)
-    output = []
-    reader = threading.Thread(
-        target=lambda: output.append(process.stdout.read()))
-    reader.start()
-    for piece in pieces:
-        if not write_piece(process, piece):
-            break
-        time.sleep(pause_seconds)
-    close_input(process)
-    trouble = end(process)
-    reader.join()
-    process.stdout.close()
-    return output[0], trouble
-
-
-def send_random_pieces(command, script, _replies):
-    data = script.data()
-    source = random.Random("pieces of " + script.name)
-    cuts = sorted(source.randrange(len(data) + 1) for _ in range(7))
-    bounds = [0] + cuts + [len(data)]
-    pieces = [data[a:b] for a, b in zip(bounds, bounds[1:])]
-    return send_pieces(command, pieces, 0.03)
-
-
-def send_single_bytes(command, script, _replies):
-    data = script.data()
-    pieces = [data[k:k + 1] for k in range(len(data))]
-    return send_pieces(command, pieces, 0.0005)
-
-
-def read_reply(process, wanted):
-    """Reads until so many bytes are there, the output ends or time is up."""
-    reply = b""
-    deadline = time.monotonic() + TURN_LIMIT_SECONDS
-    while len(reply) < wanted:
-        left = deadline - time.monotonic()
-        if left <= 0 or not select.select([process.stdout], [], [], left)[0]:
-            return reply, "no full reply in %d s" % TURN_LIMIT_SECONDS
-        piece = os.read(process.stdout.fileno(), 65536)
-        if not piece:
-            return reply, "output ended early"
-        reply += piece
-    return reply, None
-
-
-def send_in_turns(command, script, replies):
-    """A line is written only after the full reply to the one before it."""
-    process = start(command)
-    output, trouble = b"", None
-    for line, expected in zip(script.lines, replies):
-        if not write_piece(process, line + b"\n"):
-            trouble = "input closed early"
-        else:
-            reply, trouble = read_reply(process, len(expected))
-            output += reply
-        if trouble:
-            process.kill()
-            break
-    close_input(process)
-    status_trouble = end(process)
-    output += process.stdout.read()
-    process.stdout.close()
-    return output, trouble or status_trouble
-
-
-SENDERS = {
-    "whole": send_whole,
-    "pieces": send_random_pieces,
-    "bytes": send_single_bytes,
-    "turns": send_in_turns,
-}
-
-
 # Comparing, shrinking and reporting.
 
 def differs(program, script):
@@ -294,7 +174,8 @@ def shown_lines(data):
 
 
 def report_difference(program, script, seed, replies, output, trouble):
-    print("FAILED: %s script '%s', seed %d" % (program.name, script.name, seed))
+    print("FAILED: %s script '%s', seed %d"
+          % (program.name, script.name, seed))
     if trouble:
         print("  trouble: " + trouble)
     small = shrink(program, shortest_prefix(program, script, replies, output))
@@ -393,85 +274,7 @@ def input_end_scripts():
     ]
 
 
-# Misheard lines: right lines with one thing wrong.
-
-def with_changed_field(source, line, change):
-    fields = line.split(b" ")
-    which = source.randrange(len(fields))
-    fields[which] = change(fields[which])
-    return b" ".join(fields)
-
-
-def with_changed_space(source, line, other):
-    places = [k for k in range(len(line)) if line[k:k + 1] == b" "]
-    if not places:
-        return line + other
-    place = source.choice(places)
-    return line[:place] + other + line[place + 1:]
-
-
-def with_noise_byte(source, line):
-    place = source.randrange(len(line) + 1)
-    byte = bytes([source.randrange(256)]).replace(b"\n", b"\r")
-    kept_from = place + source.randrange(2)
-    return line[:place] + byte + line[kept_from:]
-
-
-def dropped_field(source, line):
-    fields = line.split(b" ")
-    del fields[source.randrange(len(fields))]
-    return b" ".join(fields)
-
-
-def misheard(source, line):
-    ways = [
-        lambda: with_changed_field(source, line, lambda f: b"0" + f),
-        lambda: with_changed_field(source, line, lambda f: f + b"0000"),
-        lambda: with_changed_field(source, line, lambda f: b"256"),
-        lambda: with_changed_field(source, line, lambda f: b"-" + f),
-        lambda: with_changed_field(source, line, lambda f: b"+" + f),
-        lambda: with_changed_field(source, line, lambda f: f.lower() + b"x"),
-        lambda: with_changed_field(source, line, lambda f: b""),
-        lambda: with_changed_space(source, line, b"  "),
-        lambda: with_changed_space(source, line, b"\t"),
-        lambda: with_changed_space(source, line, b""),
-        lambda: dropped_field(source, line),
-        lambda: line + b" ", lambda: b" " + line, lambda: line + b"\r",
-        lambda: line + b"\0", lambda: line + b"\x85", lambda: line + b" 7",
-        lambda: line.lower(), lambda: line + line,
-        # One change for another: an X line with a byte, an I line without.
-        lambda: source.choice(calls.CHANGES) + line[1:],
-        lambda: with_noise_byte(source, line),
-        lambda: with_noise_byte(source, line),
-    ]
-    return source.choice(ways)()
-
-
-def wrong_line(source):
-    sort = source.randrange(4)
-    if sort == 0:
-        return source.choice([b"", b" ", b"X", b"HELP", b"\r", b"\0", b"\xff",
-                              b"L", b"M", b"O", b"QQ", b"BA", b"0", b"Q Q",
-                              b"!", b"E", b"\xc3\x96 1 2 2 0 I AC", b"I",
-                              b"I 0", b"X 0 65", b"B X", b"IX 0", b"K",
-                              b"K 1", b"M 1", b"K 1 0 0", b"M 1 2 2 0",
-                              b"B K", b"KM 1 0"])
-    if sort == 1:
-        length = source.choice([1040, 1041, 1042, 2081, 5000])
-        head = source.choice([b"O 1 2 2 0 I ", b"Q", b"L 0 65 ", b"I 0 65 ",
-                              b"X 0 ", b"K 1 0 ", b"M 1 0 ", b"", b" "])
-        return (head + b"ACGT" * 1300)[:length]
-    if sort == 2:
-        return refused_long_opening(source)
-    return random_word(
-        source, b"OLKMIXBAQ 0123456789IC", source.randrange(1, 16))
-
-
-def refused_long_opening(source):
-    """More than 1,000 letters, up to and past the line's own bound."""
-    length = source.choice([1001, 1002, 1023, 1025, 1027, 1028, 1029, 1030])
-    return opening(usual_limits(source), any_map(source), b"A" * length)
-
+# Lines of the call program.
 
 CALL_WEIGHTS = [(b"O", 5), (b"L", 14), (b"I", 14), (b"X", 10), (b"K", 7),
                 (b"M", 7), (b"B", 18), (b"A", 12), (b"Q", 16), (b"wrong", 7)]
@@ -642,12 +445,16 @@ def misheard_changes(source, lines_from):
         + misheard_sample(source, lines_from)
 
 
-def change_scripts(seed, times, request, readings, groups, misheard_from):
+def group_scripts(seed, times, request, groups):
     """The numbers are those of the readings of that request of 02."""
-    yield from hand_scripts(request + " reading", readings)
     for name, count, lines_from, find_faults in groups:
         yield from many(seed, "%s readings %s" % (request, name),
                         count * times, lines_from, find_faults=find_faults)
+
+
+def change_scripts(seed, times, request, readings, groups, misheard_from):
+    yield from hand_scripts(request + " reading", readings)
+    yield from group_scripts(seed, times, request, groups)
     yield from many(seed, request + ": misheard lines", 2 * times,
                     lambda s: misheard_changes(s, misheard_from))
 
@@ -661,8 +468,9 @@ def call_scripts(seed, times):
     yield from hand_scripts("read-back sheet", READ_BACK_CALLS)
     yield example_12_script()
     yield from hand_scripts("reading", LINE_READINGS + TILING_READINGS)
-    yield Script("reading 16: example in turns", second.lines_of(EXAMPLE_INPUT),
-                 sent="turns", expected=EXAMPLE_OUTPUT)
+    yield Script("reading 16: example in turns",
+                 second.lines_of(EXAMPLE_INPUT), sent="turns",
+                 expected=EXAMPLE_OUTPUT)
     yield from many(seed, "random call", 40 * times,
                     lambda s: random_call(s, 250, SHORT_LENGTHS))
     yield from many(seed, "random long call", 5 * times,
@@ -687,10 +495,12 @@ def call_scripts(seed, times):
                               places.GROUPS, places.any_history_lines)
     yield from change_scripts(seed, times, "L6", LIMIT_READINGS,
                               LIMIT_GROUPS, in_turn_lines)
+    yield from hand_scripts("L7 reading", CALLS_WITHOUT_SHUFFLES)
 
 
 # Lines and groups of scripts for the inspect program. Those over alphabets are
-# in alphabets.py and stops.py; the alphabet of all others is all 256 bytes.
+# in alphabets.py and stops.py, and those of shuffles.py take none; the
+# alphabet of all others is all 256 bytes.
 
 def any_inspect_map(source):
     return source.choice([b"I", b"C", b"I", b"C", b"I", b"C", b"S", b"X"])
@@ -763,7 +573,7 @@ def agreement_line(source, string):
 
 INSPECT_SORTS = [tiling_line, tiling_line, centres_line, longest_line,
                  longer_line, step_line, agreement_line, agreement_line,
-                 stops.any_stop_line]
+                 stops.any_stop_line, shuffles.any_shuffle_line]
 
 
 def inspection_lines(source, line_count, lengths):
@@ -793,7 +603,8 @@ def long_inspection_lines(source):
                 d, any_map(source), b"*", table,
                 source.choice([6000, 3000, 5]), string))
         lines += [centres_line(source, string), longest_line(source, string),
-                  longer_line(source, string)]
+                  longer_line(source, string),
+                  shuffles.any_shuffle_line(source, string)]
     return lines
 
 
@@ -811,7 +622,8 @@ def too_long_strings(source):
             joined(b"W", map_name, source.choice([0, 1, 30, 1000, 1001]),
                    string),
             joined(b"Y", 1, 1, 0, 0, map_name, b"*",
-                   source.choice([b"", b"00", b"5000000003e8"]), string)]
+                   source.choice([b"", b"00", b"5000000003e8"]), string),
+            shuffles.any_shuffle_line(source, string)]
     return lines
 
 
@@ -900,12 +712,6 @@ def returns(source, drawn_case, count):
     return lines
 
 
-def misheard_sample(source, lines_from):
-    """Some of the lines over all maps and alphabets, each misheard."""
-    lines = source.sample(lines_from(source), 150)
-    return [misheard(source, line) for line in lines]
-
-
 def alphabet_scripts(seed, times):
     """The numbers are those of the readings of 02, L2."""
     yield from hand_scripts("L2 reading", ALPHABET_READINGS + ALPHABET_LINES)
@@ -931,9 +737,19 @@ def stop_scripts(seed, times):
                     lambda s: misheard_sample(s, stops.every_centre_lines))
 
 
+def shuffle_scripts(seed, times):
+    """The numbers are those of the readings of 02, L7."""
+    yield from hand_scripts(
+        "L7 reading", SHUFFLE_READINGS + SHUFFLE_REFUSALS + SHUFFLE_LINES)
+    yield from group_scripts(seed, times, "L7", shuffles.GROUPS)
+    yield from many(seed, "L7: misheard lines", 2 * times,
+                    lambda s: misheard_sample(s, shuffles.short_lines))
+
+
 def inspect_scripts(seed, times):
     """All scripts for the inspect program."""
-    yield from hand_scripts("INSPECT.md", INSPECT_EXAMPLES + STOP_EXAMPLES)
+    yield from hand_scripts(
+        "INSPECT.md", INSPECT_EXAMPLES + STOP_EXAMPLES + SHUFFLE_EXAMPLES)
     yield from hand_scripts("read-back sheet", READ_BACK_INSPECTIONS)
     yield from hand_scripts(
         "L1 reading", READER_READINGS + AGREEMENT_READINGS + AGREEMENT_LINES)
@@ -961,6 +777,7 @@ def inspect_scripts(seed, times):
     yield from alphabet_scripts(seed, times)
     yield from stop_scripts(seed, times)
     yield from hand_scripts("L4 reading", MAP_READINGS)
+    yield from shuffle_scripts(seed, times)
 
 
 def parsed_arguments():

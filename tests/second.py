@@ -1,7 +1,7 @@
 #!/usr/bin/env python3
 """An independent second program for the call program and for inspection.
 
-Written from the build description (01), from requests L1 to L6 (02) and from
+Written from the build description (01), from requests L1 to L7 (02) and from
 how docs/DECISIONS.md reads them, by the definitions, so that it shares no code
 with the program that it is compared with.
 
@@ -12,12 +12,19 @@ with the program that it is compared with.
 Short strings are tiled by brute force over all permitted tilings, longer ones
 by a plain table. The self-check (selfcheck.py) shows that both ways agree. A
 sheet carries its changes out one by one, and after each of them its letters
-and limits are reckoned afresh from the opening.
+and limits are reckoned afresh from the opening. Palindromes of all sorts are
+in palindromes.py.
 """
 
-import functools
 import itertools
 import sys
+
+# Keeps the tests' directory free of compiled files.
+sys.dont_write_bytecode = True
+from palindromes import (  # noqa: E402
+    error_count, exact_lengths, is_exact_palindrome, longer_of_two,
+    longest_part, maximal_length, maximal_length_by_definition,
+    maximal_lengths, shuffled_lengths, start_of_span, stop)
 
 MOST_LETTERS = 1000
 MOST_CHANGES = 64
@@ -35,8 +42,7 @@ BRUTE_TILINGS = 2500
 PIECE = "P"
 GAP = "G"
 
-# What stops the palindrome of a centre.
-PAIR_BLOCKS, END_MET, BARRED = 1, 2, 3
+CAPITALS = b"ABCDEFGHIJKLMNOPQRSTUVWXYZ"
 
 PLAIN_MAP = bytes(range(256))
 COMPLEMENT_MAP = PLAIN_MAP.translate(bytes.maketrans(b"ATCG", b"TAGC"))
@@ -67,103 +73,6 @@ class Refusal(Exception):
     def __init__(self, number):
         super().__init__(number)
         self.number = number
-
-
-# Palindromes, by definition.
-
-def is_exact_palindrome(span, letter_map):
-    length = len(span)
-    return length >= 1 and all(
-        span[k] == letter_map[span[length - 1 - k]] for k in range(length))
-
-
-def error_count(span, letter_map):
-    length = len(span)
-    unequal_pairs = sum(
-        1 for k in range(length)
-        if k < length - 1 - k and span[k] != letter_map[span[length - 1 - k]])
-    middle = span[length // 2]
-    odd_middle = length % 2 == 1 and middle != letter_map[middle]
-    return unequal_pairs + (1 if odd_middle else 0)
-
-
-@functools.lru_cache(maxsize=None)
-def has_own_partner(letter_map, alphabet):
-    """Whether some letter of the alphabet is its own partner."""
-    return any(alphabet[x] != 0 and letter_map[x] == x for x in range(256))
-
-
-def is_d_palindrome(span, letter_map, alphabet, d):
-    """Where no letter of the alphabet can stand in the middle, a span of odd
-    length is none at any d."""
-    if len(span) % 2 == 1 and not has_own_partner(letter_map, alphabet):
-        return False
-    return error_count(span, letter_map) <= d
-
-
-def spans_at_centre(letters, centre):
-    """All spans (start, length) with first place + last place = centre."""
-    for first in range(len(letters)):
-        last = centre - first
-        if first <= last < len(letters):
-            yield first, last - first + 1
-
-
-def maximal_length_by_definition(letters, letter_map, alphabet, centre, d):
-    lengths = [length for start, length in spans_at_centre(letters, centre)
-               if is_d_palindrome(letters[start:start + length], letter_map,
-                                  alphabet, d)]
-    return max(lengths, default=0)
-
-
-def grown_length(letters, letter_map, centre, d):
-    """The longest span of a centre with at most d errors. Grows outward: a
-    longer span never has fewer errors."""
-    first, last = centre // 2, (centre + 1) // 2
-    errors, longest = 0, 0
-    while first >= 0 and last < len(letters):
-        if letters[first] != letter_map[letters[last]]:
-            errors += 1
-        if errors > d:
-            break
-        longest = last - first + 1
-        first, last = first - 1, last + 1
-    return longest
-
-
-def exact_lengths(letters, letter_map):
-    """The longest exact palindromes of all centres; no alphabet is asked."""
-    return [grown_length(letters, letter_map, centre, 0)
-            for centre in range(2 * len(letters) - 1)]
-
-
-def maximal_length(letters, letter_map, alphabet, centre, d):
-    """The spans of an even centre are all of odd length."""
-    if centre % 2 == 0 and not has_own_partner(letter_map, alphabet):
-        return 0
-    return grown_length(letters, letter_map, centre, d)
-
-
-def maximal_lengths(letters, letter_map, alphabet, d):
-    return [maximal_length(letters, letter_map, alphabet, centre, d)
-            for centre in range(2 * len(letters) - 1)]
-
-
-def start_of_span(centre, length):
-    return (centre + 1 - length) // 2
-
-
-def stop(letters, letter_map, alphabet, centre, d):
-    """What stops the palindrome of a centre: the case, and both places of the
-    pair that blocks, else zeros. Counts the errors of whole spans, so that it
-    doesn't rest on the walk that gives the length."""
-    if centre % 2 == 0 and not has_own_partner(letter_map, alphabet):
-        return BARRED, 0, 0
-    # Each pair outward is the ends of a span; a middle letter is both ends.
-    for start, length in reversed(list(spans_at_centre(letters, centre))):
-        if error_count(letters[start:start + length], letter_map) > d:
-            return PAIR_BLOCKS, start, start + length - 1
-    return END_MET, 0, 0
 
 
 # Brute force over all tilings. A part is (sort, start, length, errors).
@@ -360,9 +269,13 @@ def tile(letters, letter_map, alphabet, limits):
 
 # Refusals, each list in testing order.
 
-def refuse_letters_and_map(letters, letter_map):
+def refuse_too_many_letters(letters):
     if len(letters) > MOST_LETTERS:
         raise Refusal(1)
+
+
+def refuse_letters_and_map(letters, letter_map):
+    refuse_too_many_letters(letters)
     if len(letter_map) != 256:
         raise Refusal(2)
     if any(letter_map[letter_map[x]] != x for x in range(256)):
@@ -862,36 +775,6 @@ def inspect_stop(fields):
     return line_of("D", *reply)
 
 
-def longest_palindrome_by_definition(letters, letter_map):
-    """(start, length), the first of the longest; (0, 0) where none is."""
-    for length in range(len(letters), 0, -1):
-        for start in range(len(letters) - length + 1):
-            span = letters[start:start + length]
-            if is_exact_palindrome(span, letter_map):
-                return start, length
-    return 0, 0
-
-
-def longest_palindrome(letters, letter_map):
-    lengths = exact_lengths(letters, letter_map)
-    longest = max(lengths, default=0)
-    if longest == 0:
-        return 0, 0
-    starts = [start_of_span(centre, length)
-              for centre, length in enumerate(lengths) if length == longest]
-    return min(starts), longest
-
-
-def longest_part(letters, letter_map):
-    start, length = longest_palindrome(letters, letter_map)
-    return letters[start:start + length]
-
-
-def longer_of_two(first, second, letter_map):
-    parts = longest_part(first, letter_map), longest_part(second, letter_map)
-    return parts[1] if len(parts[1]) > len(parts[0]) else parts[0]
-
-
 def part_lines(letter, number, part):
     return line_of(letter, number, len(part)) + room_line("R", part)
 
@@ -946,6 +829,28 @@ def inspect_agreement(fields):
         string, letter_map, alphabet, limits, file_from(file)))
 
 
+def ask_shuffles(letters, lent):
+    """Fills one entry a letter."""
+    refuse_too_many_letters(letters)
+    if any(letter not in CAPITALS for letter in letters):
+        raise Refusal(20)
+    if len(lent) < len(letters):
+        raise Refusal(11)
+    fill(lent, shuffled_lengths(letters))
+
+
+def inspect_shuffles(fields):
+    """A asks for the longest shuffled palindrome from each place."""
+    _, entries, string = fields
+    lent = [LENT_FILL] * number_from(entries)
+    number = 0
+    try:
+        ask_shuffles(string, lent)
+    except Refusal as refusal:
+        number = refusal.number
+    return line_of("A", number) + room_line("E", lent)
+
+
 INSPECT_LINES = {
     b"T": (10, inspect_tiling),
     b"S": (10, inspect_tiling),
@@ -955,6 +860,7 @@ INSPECT_LINES = {
     b"W": (4, inspect_longer),
     b"F": (3, inspect_step),
     b"Y": (9, inspect_agreement),
+    b"A": (3, inspect_shuffles),
 }
 
 
@@ -986,8 +892,6 @@ def main(arguments):
     elif arguments == ["inspect"]:
         run_lines(InspectProgram())
     elif arguments == ["self-check"]:
-        # Keeps the tests' directory free of compiled files.
-        sys.dont_write_bytecode = True
         import selfcheck
         selfcheck.run()
     else:

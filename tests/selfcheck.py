@@ -3,26 +3,30 @@ for every map and alphabet that an opening accepts. A part file is judged to be
 a permitted tiling exactly when it is the file of one of all permitted tilings,
 and a span is a d-palindrome exactly when some exact palindrome over the
 alphabet differs from it in at most d places. What stops a palindrome goes with
-its length, and letters farther out change neither. After any run of calls a
-sheet is what its opening and the calls alone make of it.
+its length, and letters farther out change neither. A stretch is a shuffled
+palindrome exactly when some order of its letters is a palindrome. After any
+run of calls a sheet is what its opening and the calls alone make of it.
 
     python3 tests/second.py self-check
 """
 
+import functools
 import itertools
 import random
 import sys
 
-from second import (
-    ALPHABETS, BARRED, BRUTE_TILINGS, BYTES_A_PART, END_MET, GAP, INSPECT_MAPS,
-    MOST_CHANGES, MOST_LETTERS, NO_TILING, PAIR_BLOCKS, Refusal, Sheet,
-    all_tilings, alphabet_of, ask_agreement, ask_centres, ask_stop,
-    error_count, exact_lengths, gap_total, has_own_partner, is_d_palindrome,
-    is_exact_palindrome, line_of, longest_palindrome,
+from palindromes import (
+    BARRED, END_MET, PAIR_BLOCKS, error_count, exact_lengths, has_own_partner,
+    is_d_palindrome, is_exact_palindrome, longest_palindrome,
     longest_palindrome_by_definition, maximal_length,
-    maximal_length_by_definition, maximal_lengths, pieces_by_definition,
-    read_part, record_of, records_of, start_of_span, stop,
-    tile_by_brute_force, tile_by_table)
+    maximal_length_by_definition, maximal_lengths, shuffled_lengths,
+    start_of_span, stop)
+from second import (
+    ALPHABETS, BRUTE_TILINGS, BYTES_A_PART, CAPITALS, GAP, INSPECT_MAPS,
+    LENT_FILL, MOST_CHANGES, MOST_LETTERS, NO_TILING, PLAIN_MAP, Refusal,
+    Sheet, all_tilings, alphabet_of, ask_agreement, ask_centres, ask_shuffles,
+    ask_stop, gap_total, line_of, pieces_by_definition, read_part, record_of,
+    records_of, tile_by_brute_force, tile_by_table)
 
 # By hand from the descriptions of maps and alphabets: the letters of each
 # alphabet, the alphabets that a map closes, and those among them with a letter
@@ -723,6 +727,92 @@ def check_random_calls(random_source):
     return rounds * len(cases)
 
 
+# Shuffled palindromes.
+
+# Letters, and the length up to which all strings in them are written out.
+SHUFFLED = [(b"AB", 8), (b"AZ", 4), (b"ABC", 6), (b"ACGT", 5), (b"ABCDE", 5)]
+
+
+@functools.lru_cache(maxsize=None)
+def can_be_reordered(sorted_letters):
+    """Whether one of all their orders is a palindrome."""
+    return any(order == order[::-1]
+               for order in itertools.permutations(sorted_letters))
+
+
+def lengths_by_orders(letters):
+    """How a stretch is ordered makes no difference to its orders, so that
+    those of equal letters are gone through once."""
+    return [max(end - start for end in range(start + 1, len(letters) + 1)
+                if can_be_reordered(bytes(sorted(letters[start:end]))))
+            for start in range(len(letters))]
+
+
+def is_counted_as_shuffled(stretch):
+    odd_ones = [x for x in set(stretch) if stretch.count(x) % 2 == 1]
+    return len(odd_ones) <= 1
+
+
+def lengths_by_whole_counts(letters):
+    """Each stretch is counted afresh, from the longest down."""
+    return [next(end - start for end in range(len(letters), start, -1)
+                 if is_counted_as_shuffled(letters[start:end]))
+            for start in range(len(letters))]
+
+
+def longer_exact_palindromes(letters, lengths):
+    """Those under the plain map that are longer than the length given for the
+    place where they begin."""
+    return [(start, end) for start, longest in enumerate(lengths)
+            for end in range(start + longest + 1, len(letters) + 1)
+            if is_exact_palindrome(letters[start:end], PLAIN_MAP)]
+
+
+def check_shuffles(letters, lengths_another_way):
+    lengths = shuffled_lengths(letters)
+    must_agree("shuffles", letters, lengths, lengths_another_way(letters))
+    must_agree("longer exact palindromes", letters, [],
+               longer_exact_palindromes(letters, lengths))
+
+
+def shuffle_tests(letters, entries):
+    """L7's list of refusals, each with whether it holds."""
+    return [(1, len(letters) > 1000),
+            (20, any(not 65 <= letter <= 90 for letter in letters)),
+            (11, entries < len(letters))]
+
+
+def check_shuffle_room(letters, entries):
+    """The refusal, and all lent entries."""
+    case, lent = (letters[:10], entries), [LENT_FILL] * entries
+    number = number_of(ask_shuffles, letters, lent)
+    must_agree("shuffles refused", case, number,
+               first_fault(shuffle_tests(letters, entries)))
+    filled = shuffled_lengths(letters) if number == 0 else []
+    must_agree("lent entries", case, lent,
+               filled + [LENT_FILL] * (entries - len(filled)))
+
+
+def check_all_shuffles(random_source, rounds):
+    """All small strings, and so many longer ones; and the refusals with each
+    byte, and with strings at the bound."""
+    strings = [string for letters, most in SHUFFLED
+               for string in small_strings(letters, most)]
+    for string in strings:
+        check_shuffles(string, lengths_by_orders)
+    for _ in range(rounds):
+        letters = random_source.choice([b"AB", b"ACGT", b"QRSTUVWX", CAPITALS])
+        length = random_source.randrange(9, 41)
+        check_shuffles(bytes(random_source.choices(letters, k=length)),
+                       lengths_by_whole_counts)
+    faulty_and_right = [bytes([x]) for x in range(256)] + [
+        b"", b"AZ", b"A@", b"[Z", b"A" * 1000, b"A" * 1001, b"a" * 1001]
+    for string in faulty_and_right:
+        for entries in (0, 1, 2, 999, 1000, 1001, 1002):
+            check_shuffle_room(string, entries)
+    return len(strings) + rounds
+
+
 def run():
     random_source = random.Random(1)
     check_all_refusals()
@@ -733,6 +823,7 @@ def run():
     file_count = check_random_files(random_source, 1500)
     calls = check_limit_calls() + check_random_calls(random_source)
     stops = check_all_stops(random_source, 100)
-    print("self-check: %d spans, %d tilings, %d files, %d calls and %d stops "
-          "agree, and all maps with all alphabets"
-          % (spans, count, file_count, calls, stops))
+    shuffles = check_all_shuffles(random_source, 300)
+    print("self-check: %d spans, %d tilings, %d files, %d calls, %d stops and "
+          "%d shuffled strings agree, and all maps with all alphabets"
+          % (spans, count, file_count, calls, stops, shuffles))

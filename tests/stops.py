@@ -2,6 +2,7 @@
 alphabets, and what their replies have to show: each refusal, each case, the
 length that the fill gives too, and nothing that the laws of a stop forbid."""
 
+import palindromes
 import second
 from alphabets import (
     LENGTHS, LETTERS_FOR, PAIRS, spelt_string, usable_map,
@@ -212,10 +213,10 @@ def end_of(first, length, count):
 def outcome(d, centre, string, answer):
     """What an accepted answer is an instance of."""
     length, case, left, right = answer
-    if case == second.BARRED:
+    if case == palindromes.BARRED:
         return "a barred centre"
-    if case == second.END_MET:
-        first = second.start_of_span(centre, length)
+    if case == palindromes.END_MET:
+        first = palindromes.start_of_span(centre, length)
         return end_of(first, length, len(string))
     if left == right:
         return "a middle letter"

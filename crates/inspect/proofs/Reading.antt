@@ -15,7 +15,7 @@ use Rattle.terms.specs.declared.limits.Limits.{Limits}
 use Rattle.inspect.specs.Asking.{Follows, Behind, Beyond, Fits}
 use Rattle.inspect.specs.declared.maps.Map.{Map}
 use Rattle.inspect.specs.declared.asks.Ask.{Ask}
-use Rattle.inspect.specs.declared.asks.Ask.the-variants.{Tiling, Centres, Longest, Longer, Centre}
+use Rattle.inspect.specs.declared.asks.Ask.the-variants.{Tiling, Centres, Longest, Longer, Centre, Shuffled}
 use Rattle.inspect.specs.declared.named.Letter.{Letter}
 use Rattle.inspect.specs.declared.named.Letter.the-variants.{Is as LetterIs}
 use Rattle.inspect.specs.declared.named.Named.{Named}
@@ -64,3 +64,6 @@ module _ (xs : List ℕ) (r : Ask) (p : Fits xs r) where
 
   pub centre-fits : (d : ℕ) (m : Letters) (k f : ℕ) → r ≡ Centre d m k f → f ≤ length xs
   centre-fits d m k f e = subst (Fits xs) e p
+
+  pub shuffled-fits : (t f : ℕ) → r ≡ Shuffled t f → (t ≤ 9999) × (f ≤ length xs)
+  shuffled-fits t f e = subst (Fits xs) e p

@@ -3,7 +3,7 @@ use mathlib.Core.List.{List}
 use Prim.Native.Nat.{ℕ, _+_, _≤_}
 use lib.ListN.{length}
 use Rattle.inspect.specs.declared.asks.Ask.{Ask}
-use Rattle.inspect.specs.declared.asks.Ask.the-variants.{Tiling, Centres, Longest, Longer, Centre, Unknown}
+use Rattle.inspect.specs.declared.asks.Ask.the-variants.{Tiling, Centres, Longest, Longer, Centre, Shuffled, Unknown}
 use Rattle.inspect.specs.declared.named.Letter.{Letter}
 use Rattle.inspect.specs.declared.named.Letter.the-variants.{Is as LetterIs, Not as NoLetter}
 use Rattle.inspect.specs.declared.named.Named.{Named}
@@ -39,4 +39,5 @@ Fits xs (Centres d letters entries from) = (entries ≤ 9999) × (from ≤ lengt
 Fits xs (Longest map from) = from ≤ length xs
 Fits xs (Longer map first from) = from + first ≤ length xs
 Fits xs (Centre d letters centre from) = from ≤ length xs
+Fits xs (Shuffled entries from) = (entries ≤ 9999) × (from ≤ length xs)
 Fits xs Unknown = Unit {0}

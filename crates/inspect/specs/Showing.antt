@@ -3,7 +3,6 @@ use mathlib.Core.List.{List, [], _∷_, _++_}
 use Prim.Native.Nat.{ℕ}
 use lib.ListN.{length}
 use Rattle.questions.specs.declared.Answer.{Answer}
-use Rattle.spans.specs.declared.CentreCount.{CentreCount}
 use Rattle.stops.specs.Centre.{replyValues}
 use Rattle.stops.specs.declared.CentreStop.{CentreStop}
 use Rattle.printing.specs.Printing.{printed}
@@ -16,9 +15,9 @@ abbrev pub tilingText : ℕ → Answer → List ℕ → List ℕ → List ℕ
 tilingText letter a table room =
     printed letter (a .number ∷ a .total ∷ a .parts ∷ a .gaps ∷ []) ++ (printed 69 table ++ printed 82 room)
 
--- `C` with the fill's numbers, `E` with the entries.
-abbrev pub centresText : CentreCount → List ℕ → List ℕ
-centresText found entries = printed 67 (found .number ∷ found .count ∷ []) ++ printed 69 entries
+-- `C` or `A` with the fill's numbers, `E` with the entries.
+abbrev pub filledText : ℕ → List ℕ → List ℕ → List ℕ
+filledText letter numbers entries = printed letter numbers ++ printed 69 entries
 
 -- `D` with the number and the values of the reply.
 abbrev pub stopText : CentreStop → List ℕ

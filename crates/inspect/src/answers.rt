@@ -8,7 +8,7 @@ use crate::maps::Map;
 use crate::maps::bytes_of;
 use crate::maps::size_of;
 use crate::named::Letters;
-use crate::shows::put_centres;
+use crate::shows::put_filled;
 use crate::shows::put_part;
 use crate::shows::put_stop;
 use crate::shows::put_tiling;
@@ -20,6 +20,7 @@ use questions::tile;
 use replies::number_of;
 use replies::put_refusal;
 use sheet::Sheet;
+use shuffled::fill_shuffled;
 use spans::fill_centres;
 use stops::centre_stop;
 use terms::limits::Limits;
@@ -144,7 +145,8 @@ fn centres(d: usize, letters: Letters, string: &[u8], entries: &mut [u16], out: 
     let flags = flags_of(alphabet);
     let count = count_of(alphabet);
     let found = fill_centres(string, &bytes[0..size], d, entries, &flags[0..count]);
-    put_centres(out, found, entries)
+    let numbers = [found.number, found.count];
+    put_filled(out, b'C', &numbers, entries)
 }
 
 // `D`: the maximal length of one centre, and what stops it.
@@ -159,6 +161,15 @@ fn one_centre(d: usize, letters: Letters, string: &[u8], centre: usize, out: &mu
     let count = count_of(alphabet);
     let found = centre_stop(string, &bytes[0..size], d, centre, &flags[0..count]);
     put_stop(out, found)
+}
+
+// `A`: the longest shuffled palindrome from each start.
+fn reordered(string: &[u8], entries: &mut [u16], out: &mut [u8]) -> usize
+    ensures { λ r. ⌜ r ≤ length (now (out .entry)) ⌝ }
+{
+    reset_entries(entries);
+    let numbers = [fill_shuffled(string, entries)];
+    put_filled(out, b'A', &numbers, entries)
 }
 
 // `P`: the longest palindrome of one string.
@@ -222,6 +233,9 @@ pub fn answer(line: &[u8], table: &mut [u16], room: &mut [u8], out: &mut [u8]) -
             centre,
             from,
         } => one_centre(d, letters, &line[from..n], centre, out),
+        Ask::Shuffled { entries, from } => {
+            reordered(&line[from..n], &mut table[0..entries], out)
+        }
         Ask::Unknown => answer_file(line, room, out),
     }
 }

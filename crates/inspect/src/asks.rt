@@ -1,4 +1,4 @@
-// One line read: what it asks of the tiling question, the fill, one centre or the longest palindromes. Unknown is any other line: `files` has those.
+// One line read: what it asks of the tiling question, the fills, one centre or the longest palindromes. Unknown is any other line: `files` has those.
 use crate::maps::Map;
 use crate::named::Chosen;
 use crate::named::Letters;
@@ -43,6 +43,10 @@ pub enum Ask {
         d: usize,
         letters: Letters,
         centre: usize,
+        from: usize,
+    },
+    Shuffled {
+        entries: usize,
         from: usize,
     },
     Unknown,
@@ -162,6 +166,26 @@ fn longer_line(s: &[u8]) -> Ask
     Ask::Longer { map, first, from }
 }
 
+// `A entries string`
+fn shuffled_line(s: &[u8]) -> Ask
+    ensures { λ r. ⌜ Fits (now (s .entry)) r ⌝ }
+{
+    let Number::Is {
+        value: entries,
+        next,
+    } = number_after(s, 1)
+    else {
+        return Ask::Unknown;
+    };
+    if !stands(s, next, 32) {
+        return Ask::Unknown;
+    }
+    Ask::Shuffled {
+        entries,
+        from: next + 1,
+    }
+}
+
 // One line, without its line end. Each form's reader sees to the space behind the letter.
 pub fn read(s: &[u8]) -> Ask
     ensures { λ r. ⌜ Fits (now (s .entry)) r ⌝ }
@@ -186,6 +210,9 @@ pub fn read(s: &[u8]) -> Ask
     }
     if stands(s, 0, b'W') {
         return longer_line(s);
+    }
+    if stands(s, 0, b'A') {
+        return shuffled_line(s);
     }
     Ask::Unknown
 }

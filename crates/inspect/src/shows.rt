@@ -3,11 +3,10 @@ use printing::put_byte;
 use printing::put_field;
 use printing::put_line;
 use questions::Answer;
-use spans::CentreCount;
 use stops::CentreStop;
 use stops::figures;
 ghost use Rattle.printing.specs.Printing.{printed, Put};
-ghost use Rattle.inspect.specs.Showing.{tilingText, centresText, stopText, partText};
+ghost use Rattle.inspect.specs.Showing.{tilingText, filledText, stopText, partText};
 
 // `E` and all entries of a slice.
 fn put_entries(out: &mut [u8], at: usize, entries: &[u16]) -> usize
@@ -45,12 +44,11 @@ pub fn put_tiling(out: &mut [u8], letter: u8, answer: Answer, table: &[u16], roo
     put_room(out, second, room)
 }
 
-// The fill's answer, and what it left in the entries.
-pub fn put_centres(out: &mut [u8], found: CentreCount, entries: &[u16]) -> usize
-    ensures { λ r. ⌜ Put (now (out .entry)) 0 (centresText found (now (entries .entry))) r (now (out .exit)) ⌝ }
+// The numbers that a fill answered, and what it left in the entries.
+pub fn put_filled(out: &mut [u8], letter: u8, numbers: &[usize], entries: &[u16]) -> usize
+    ensures { λ r. ⌜ Put (now (out .entry)) 0 (filledText letter (now (numbers .entry)) (now (entries .entry))) r (now (out .exit)) ⌝ }
 {
-    let numbers = [found.number, found.count];
-    let first = put_line(out, 0, b'C', &numbers);
+    let first = put_line(out, 0, letter, numbers);
     put_entries(out, first, entries)
 }
 

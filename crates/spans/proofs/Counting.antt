@@ -9,12 +9,12 @@ use borrow.Author.Tests.{lt-ltb, le-ltb}
 use lib.Dec.{ltb, eqb, leb·suc-suc}
 use Rattle.spans.specs.Palindromes.{differs, one, count, wrongPair, wrongMiddle, errorCount}
 
-count-shift : (p : ℕ → Bool) (n : ℕ) → count p (suc n) ≡ one (p 0) + count (λ k. p (suc k)) n
+pub count-shift : (p : ℕ → Bool) (n : ℕ) → count p (suc n) ≡ one (p 0) + count (λ k. p (suc k)) n
 unfolding count
 count-shift p zero = refl
 count-shift p (suc n) = let h : count p (suc n) ≡ one (p 0) + count (λ k. p (suc k)) n = count-shift p n in omega arith
 
-count-ext : (p q : ℕ → Bool) (n : ℕ) → ((k : ℕ) → k < n → p k ≡ q k) → count p n ≡ count q n
+pub count-ext : (p q : ℕ → Bool) (n : ℕ) → ((k : ℕ) → k < n → p k ≡ q k) → count p n ≡ count q n
 unfolding count
 count-ext p q zero h = refl
 count-ext p q (suc n) h =

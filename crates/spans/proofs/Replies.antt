@@ -1,28 +1,22 @@
 -- Two replies to one question are equal, slices included. Assumes nothing.
 use mathlib.Core.Path.{_≡_, sym, _∙_}
 use mathlib.Core.List.{List, [], _∷_}
-use mathlib.Core.Logic.{⊎-elim}
-use Prim.Native.Nat.{ℕ, _≤_, _<_}
+use Prim.Native.Nat.{ℕ}
 use native.Mathlib.Decide.{ℕ-discrete}
 use lib.ListN.{length}
-use lib.Seq.{ext-getD}
-use Rattle.terms.proofs.Order.{le-or-lt}
 use Rattle.terms.specs.Refusals.{firstFault, OneOf}
 use Rattle.terms.specs.Maps.{mapFaults}
 use Rattle.terms.specs.Alphabets.{alphabetFaults}
 use Rattle.terms.specs.Texts.{Text, size, stringFaults, textFaults}
+use Rattle.terms.proofs.Ranges.{entries-unique}
 use Rattle.terms.proofs.Refusals.{fault-listed}
-use Rattle.spans.specs.Palindromes.{centres}
+use Rattle.spans.specs.Palindromes.{centres, MaximalLength}
 use Rattle.spans.specs.Centres.{Lengths, centresFaults, CentresReply, CentresLaws}
 use Rattle.spans.specs.declared.CentreCount.{CentreCount}
 use Rattle.spans.proofs.Walking.{longest-unique}
 
 pub lengths-unique : (x : Text) (d : ℕ) (b a a′ : List ℕ) → Lengths x d b a → Lengths x d b a′ → a ≡ a′
-lengths-unique x d b a a′ p q =
-    ext-getD 0 a a′ (p .long ∙ sym (q .long))
-    (λ i h.
-    ⊎-elim (λ (w : centres (size x) ≤ i). p .stay i w ∙ sym (q .stay i w)) (λ (w : i < centres (size x)). longest-unique (p .filled i w) (q .filled i w))
-    (le-or-lt (centres (size x)) i))
+lengths-unique x d b a a′ p q = entries-unique (MaximalLength x d) (λ k v w. longest-unique) (centres (size x)) b a a′ (p .long) (q .long) (p .filled) (q .filled) (p .stay) (q .stay)
 
 centres-listed : (x : Text) (d lent : ℕ) → OneOf (firstFault (centresFaults x d lent)) (0 ∷ 1 ∷ 2 ∷ 3 ∷ 18 ∷ 19 ∷ 5 ∷ 11 ∷ [])
 unfolding centresFaults textFaults stringFaults mapFaults alphabetFaults

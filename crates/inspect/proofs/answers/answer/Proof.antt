@@ -1,5 +1,5 @@
 -- `answer` meets its contract. Assumes nothing.
-use Rattle.inspect.proofs.Reading.{tiling-fits, centres-fits, longest-fits, longer-fits, centre-fits}
+use Rattle.inspect.proofs.Reading.{tiling-fits, centres-fits, longest-fits, longer-fits, centre-fits, shuffled-fits}
 use native.Mathlib.Omega.{arith}
 use borrow.Author.Needs.{needs}
 use Rattle.inspect.proofs.answers.answer.Statement.{statement}
@@ -122,6 +122,30 @@ part-one-centre-end c = search needs
 one-centre-requires : tie.Need-one-centre-requires
 one-centre-requires c κs = search needs
 
+enum-known-asked-6 : tie.Need-enum-known-asked-6
+enum-known-asked-6 c = search needs
+
+sub-reordered : tie.Need-sub-reordered
+sub-reordered c = let h = shuffled-fits _ _ (c .before .before .before .read .ensures) _ _ (c .before .asked6 .given .1) in omega arith
+
+part-reordered-start : tie.Need-part-reordered-start
+part-reordered-start c = let h = shuffled-fits _ _ (c .before .before .before .read .ensures) _ _ (c .before .asked6 .given .1) in omega arith
+
+part-reordered-end : tie.Need-part-reordered-end
+part-reordered-end c = search needs
+
+sub-reordered-2 : tie.Need-sub-reordered-2
+sub-reordered-2 c = search needs
+
+part-reordered-start-2 : tie.Need-part-reordered-start-2
+part-reordered-start-2 c = search needs
+
+part-reordered-end-2 : tie.Need-part-reordered-end-2
+part-reordered-end-2 c = let h = shuffled-fits _ _ (c .before .before .before .before .read .ensures) _ _ (c .before .before .asked6 .given .1) in omega arith
+
+reordered-requires : tie.Need-reordered-requires
+reordered-requires c κs = search needs
+
 enum-told : tie.Need-enum-told
 enum-told c = search needs
 
@@ -176,6 +200,15 @@ same-length-10 c = search needs
 returns-6 : tie.Need-returns-6
 returns-6 c = search needs
 
+same-length-11 : tie.Need-same-length-11
+same-length-11 c = search needs
+
+same-length-12 : tie.Need-same-length-12
+same-length-12 c = search needs
+
+returns-7 : tie.Need-returns-7
+returns-7 c = search needs
+
 pub answer-spec : {M : Type 1} → statement M
 answer-spec =
     tie.close
@@ -219,6 +252,14 @@ answer-spec =
     part-one-centre-start
     part-one-centre-end
     one-centre-requires
+    enum-known-asked-6
+    sub-reordered
+    part-reordered-start
+    part-reordered-end
+    sub-reordered-2
+    part-reordered-start-2
+    part-reordered-end-2
+    reordered-requires
     enum-told
     answer-file-requires
     same-length
@@ -236,4 +277,7 @@ answer-spec =
     returns-5
     same-length-9
     same-length-10
-    returns-6)
+    returns-6
+    same-length-11
+    same-length-12
+    returns-7)

@@ -1,11 +1,8 @@
--- `put_centres` meets its contract. Assumes nothing.
+-- `put_filled` meets its contract. Assumes nothing.
 use Rattle.printing.proofs.Laws.{and-then}
 use borrow.Author.Needs.{needs}
-use Rattle.inspect.proofs.shows.put_centres.Statement.{statement}
-use Rattle.inspect.proofs.shows.put_centres.Tie as tie
-
-slice-aggregate-put-line : tie.Need-slice-aggregate-put-line
-slice-aggregate-put-line c = search needs
+use Rattle.inspect.proofs.shows.put_filled.Statement.{statement}
+use Rattle.inspect.proofs.shows.put_filled.Tie as tie
 
 put-line-requires : tie.Need-put-line-requires
 put-line-requires c κs = search needs
@@ -19,7 +16,5 @@ same-length c = search needs
 returns : tie.Need-returns
 returns c = and-then (c .before .before .before .before .before .before .put-line .ensures) (c .before .before .put-entries .ensures)
 
-pub put-centres-spec : {M : Type 1} → statement M
-put-centres-spec =
-    tie.close
-    (tie.spec slice-aggregate-put-line put-line-requires put-entries-requires same-length returns)
+pub put-filled-spec : {M : Type 1} → statement M
+put-filled-spec = tie.close (tie.spec put-line-requires put-entries-requires same-length returns)

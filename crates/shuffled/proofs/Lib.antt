@@ -1,0 +1,5 @@
+-- Laws that belong to no one function.
+pub mod Words
+pub mod Parities
+pub mod Exact
+pub mod Laws

@@ -1,0 +1,4 @@
+-- What shuffled palindromes are, and what their fill answers.
+pub mod Shuffled
+pub mod Laws
+pub mod Work
