@@ -8,9 +8,8 @@ use native.Mathlib.Omega.{arith}
 use borrow.Author.Tests.{lt-ltb, le-ltb, ltb-false}
 use lib.Dec.{ltb}
 use lib.ListN.{length, getD, set}
-use lib.Seq.{ext-getD}
 use Rattle.terms.proofs.Order.{le-or-lt}
-use Rattle.terms.proofs.Ranges.{Filled, fill-none, fill-up}
+use Rattle.terms.proofs.Ranges.{Filled, fill-none, fill-up, entries-unique}
 use Rattle.hex.specs.Hex.{digitOf, pairOf, byteAt, Reads, OneReading}
 use Rattle.hex.specs.declared.HexRead.{HexRead}
 
@@ -102,11 +101,7 @@ one-reading xs from room a b r s p q =
     (λ (h : r .bytes < s .bytes). absurd (stops xs from room a b r s p q h))
     (le-or-lt (s .bytes) (r .bytes)) in
     let next : r .next ≡ s .next = let i = p .next in let j = q .next in omega arith in (
-      ext-getD 0 a b (p .long ∙ sym (q .long))
-          (λ k h.
-          ⊎-elim
-          (λ (y : r .bytes ≤ k). p .stay k y ∙ sym (q .stay k (omega arith)))
-          (λ (y : k < r .bytes). p .held k y ∙ sym (q .held k (omega arith)))
-          (le-or-lt (r .bytes) k)),
+      entries-unique (λ k v. v ≡ byteAt xs (from + 2 * k)) (λ k v w h g. h ∙ sym g) (r .bytes) room a b (p .long) (q .long) (p .held)
+          (λ k h. q .held k (omega arith)) (p .stay) (λ k h. q .stay k (omega arith)),
       ap₂ reading same next,
     )

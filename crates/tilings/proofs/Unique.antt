@@ -5,9 +5,8 @@ use mathlib.Core.Logic.{_⊎_, inl, inr, ⊎-elim}
 use Prim.Native.Nat.{ℕ, _+_, _*_, _/_, _%_, _≤_, _<_}
 use native.Mathlib.Omega.{arith}
 use native.Mathlib.Nat.{le-antisymm, div-add-mod', mod-lt, div-lt-iff-lt-mul}
-use lib.ListN.{length, getD}
-use lib.Seq.{ext-getD}
-use Rattle.terms.proofs.Order.{le-or-lt}
+use lib.ListN.{getD}
+use Rattle.terms.proofs.Ranges.{entries-unique}
 use Rattle.tilings.specs.Tilings.{Board, Part, piece, gap, total, Sooner, Before, Given, Entry, entries, Table}
 
 sooner-asym : (p q : Part) → Sooner p q → Sooner q p → ⊥
@@ -49,16 +48,13 @@ module _ (B : Board) (i q : ℕ) where
 
 -- Every index of the table is one of its entries.
 pub table-unique : (B : Board) (g : ℕ) (t a b : List ℕ) → Table B g t a → Table B g t b → a ≡ b
-table-unique B g t a b p q = ext-getD 0 a b (p .long ∙ sym (q .long)) at
+table-unique B g t a b p q =
+    entries-unique (λ k. Entry B (k / (g + 1)) (k % (g + 1))) (λ k. entry-unique B (k / (g + 1)) (k % (g + 1)))
+    (entries (B .size) g) t a b (p .long) (q .long) (at a p) (at b q) (p .stay) (q .stay)
   where
-    at : (k : ℕ) → k < length a → getD a k 0 ≡ getD b k 0
-    at k h =
-        ⊎-elim
-        (λ (w : entries (B .size) g ≤ k). p .stay k w ∙ sym (q .stay k w))
-        (λ (w : k < entries (B .size) g).
+    at : (c : List ℕ) → Table B g t c → (k : ℕ) → k < entries (B .size) g → Entry B (k / (g + 1)) (k % (g + 1)) (getD c k 0)
+    at c h k w =
         let e : k / (g + 1) * (g + 1) + k % (g + 1) ≡ k = div-add-mod' k (g + 1) in
         let m : k % (g + 1) < g + 1 = mod-lt k (omega arith) in
-        let i : k / (g + 1) < B .size + 1 = div-lt-iff-lt-mul (omega arith) .1 w in
-        subst (λ (z : ℕ). getD a z 0 ≡ getD b z 0) e
-        (entry-unique B (k / (g + 1)) (k % (g + 1)) _ _ (p .entry (k / (g + 1)) (k % (g + 1)) (omega arith) (omega arith)) (q .entry (k / (g + 1)) (k % (g + 1)) (omega arith) (omega arith))))
-        (le-or-lt (entries (B .size) g) k)
+        let i : k / (g + 1) < B .size + 1 = div-lt-iff-lt-mul {k = g + 1} (omega arith) .1 w in
+        subst (λ (z : ℕ). Entry B (k / (g + 1)) (k % (g + 1)) (getD c z 0)) e (h .entry (k / (g + 1)) (k % (g + 1)) (omega arith) (omega arith))

@@ -1,5 +1,4 @@
 -- `fill_longest` meets its contract: the entries from a on hold their starts' longest lengths, and the word is that of the letters from a on. Assumes nothing.
-use mathlib.Core.Path.{_≡_}
 use Prim.Native.Nat.{_-_, _≤_}
 use native.Mathlib.Omega.{arith}
 use lib.ListN.{length}
