@@ -59,8 +59,8 @@ module _ (xs : List ℕ) (r : Ask) (p : Fits xs r) where
   pub longest-fits : (m : Map) (f : ℕ) → r ≡ Longest m f → f ≤ length xs
   longest-fits m f e = subst (Fits xs) e p
 
-  pub longer-fits : (m : Map) (n f : ℕ) → r ≡ Longer m n f → f + n ≤ length xs
-  longer-fits m n f e = subst (Fits xs) e p
+  pub longer-fits : (m : Map) (f n : ℕ) → r ≡ Longer m f n → (f ≤ n) × (n ≤ length xs)
+  longer-fits m f n e = subst (Fits xs) e p
 
   pub centre-fits : (d : ℕ) (m : Letters) (k f : ℕ) → r ≡ Centre d m k f → f ≤ length xs
   centre-fits d m k f e = subst (Fits xs) e p

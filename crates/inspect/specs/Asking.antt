@@ -37,7 +37,7 @@ abbrev pub Fits : List ℕ → Ask → Type 0
 Fits xs (Tiling sheet limits letters table room from) = (table ≤ 9999) × (room ≤ 9999) × (from ≤ length xs)
 Fits xs (Centres d letters entries from) = (entries ≤ 9999) × (from ≤ length xs)
 Fits xs (Longest map from) = from ≤ length xs
-Fits xs (Longer map first from) = from + first ≤ length xs
+Fits xs (Longer map from second) = (from ≤ second) × (second ≤ length xs)
 Fits xs (Centre d letters centre from) = from ≤ length xs
 Fits xs (Shuffled entries from) = (entries ≤ 9999) × (from ≤ length xs)
 Fits xs Unknown = Unit {0}

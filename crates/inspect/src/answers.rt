@@ -223,8 +223,7 @@ pub fn answer(line: &[u8], table: &mut [u16], room: &mut [u8], out: &mut [u8]) -
             from,
         } => centres(d, letters, &line[from..n], &mut table[0..entries], out),
         Ask::Longest { map, from } => of_one(map, &line[from..n], out),
-        Ask::Longer { map, first, from } => {
-            let second = from + first;
+        Ask::Longer { map, from, second } => {
             of_two(map, &line[from..second], &line[second..n], out)
         }
         Ask::Centre {
@@ -233,9 +232,7 @@ pub fn answer(line: &[u8], table: &mut [u16], room: &mut [u8], out: &mut [u8]) -
             centre,
             from,
         } => one_centre(d, letters, &line[from..n], centre, out),
-        Ask::Shuffled { entries, from } => {
-            reordered(&line[from..n], &mut table[0..entries], out)
-        }
+        Ask::Shuffled { entries, from } => reordered(&line[from..n], &mut table[0..entries], out),
         Ask::Unknown => answer_file(line, room, out),
     }
 }

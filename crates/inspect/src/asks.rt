@@ -14,7 +14,7 @@ use lines::fields::stands;
 use terms::limits::Limits;
 ghost use Rattle.inspect.specs.Asking.{Fits};
 
-// What a line asks. Its string is the rest of the line from a place on.
+// What a line asks. Its string is the rest of the line from a place on; of two strings the second begins at a place of its own.
 pub enum Ask {
     Tiling {
         on_sheet: bool,
@@ -36,8 +36,8 @@ pub enum Ask {
     },
     Longer {
         map: Map,
-        first: usize,
         from: usize,
+        second: usize,
     },
     Centre {
         d: usize,
@@ -163,7 +163,8 @@ fn longer_line(s: &[u8]) -> Ask
     if s.len() - from < first {
         return Ask::Unknown;
     }
-    Ask::Longer { map, first, from }
+    let second = from + first;
+    Ask::Longer { map, from, second }
 }
 
 // `A entries string`

@@ -83,14 +83,11 @@ of-one-requires c κs = search needs
 enum-known-asked-4 : tie.Need-enum-known-asked-4
 enum-known-asked-4 c = search needs
 
-add-second : tie.Need-add-second
-add-second c = let h = longer-fits _ _ (c .before .before .before .read .ensures) _ _ _ (c .before .asked4 .given .1) in omega arith
-
 sub-of-two : tie.Need-sub-of-two
-sub-of-two c = search needs
+sub-of-two c = let h = longer-fits _ _ (c .before .before .before .read .ensures) _ _ _ (c .before .asked4 .given .1) in omega arith
 
 part-of-two-start : tie.Need-part-of-two-start
-part-of-two-start c = search needs
+part-of-two-start c = let h = longer-fits _ _ (c .before .before .before .read .ensures) _ _ _ (c .before .asked4 .given .1) in omega arith
 
 part-of-two-end : tie.Need-part-of-two-end
 part-of-two-end c = let h = longer-fits _ _ (c .before .before .before .read .ensures) _ _ _ (c .before .asked4 .given .1) in omega arith
@@ -239,7 +236,6 @@ answer-spec =
     part-of-one-end
     of-one-requires
     enum-known-asked-4
-    add-second
     sub-of-two
     part-of-two-start
     part-of-two-end

@@ -44,8 +44,11 @@ sub-if2 c = let h = place-in _ _ _ _ (c .before .stands .ensures) (c .if1 .left)
 returns-4 : tie.Need-returns-4
 returns-4 c = search needs
 
+add-second : tie.Need-add-second
+add-second c = let h = place-in _ _ _ _ (c .before .before .stands .ensures) (c .before .if1 .left) in omega arith
+
 returns-5 : tie.Need-returns-5
-returns-5 c = let h = place-in _ _ _ _ (c .before .before .stands .ensures) (c .before .if1 .left) in omega arith
+returns-5 c = let h = place-in _ _ _ _ (c .before .before .stands .ensures) (c .before .if1 .left) in (omega arith, omega arith)
 
 pub longer-line-spec : {M : Type 1} → statement M
 longer-line-spec =
@@ -64,4 +67,5 @@ longer-line-spec =
     add-from
     sub-if2
     returns-4
+    add-second
     returns-5)
