@@ -1,10 +1,13 @@
 // The call program: lines from standard input, each answered on standard output before more input is waited for.
+#![tactic(auto)]
+
 ghost use Rattle.std.specs.Prelude.{◌≡◌, ◌≤◌, ◌<◌, length};
 ghost use Rattle.call.specs.Steps.{Reading, Finishing};
 ghost use Rattle.call.specs.Work.{Stepping};
 
 use desk::{Desk, Turn};
 use feed::feed;
+use std::io::Read;
 
 // The most bytes kept of a line: one more than a line may have, so that a line too long is seen to be so.
 const LINE: usize = 1041;
@@ -70,6 +73,7 @@ fn answer_piece(
     table: &mut [u16],
     room: &mut [u8],
     out: &mut [u8],
+    rt: &HostRuntime,
 ) -> Between
     requires { (length bytes.old ≡ 1041) × (at ≤ 1041) × (16016 ≤ length table.old) × (6000 ≤ length room.old) × (65536 ≤ length out.old) }
     ensures at_bound { result.at ≤ 1041 }
@@ -85,7 +89,7 @@ fn answer_piece(
         let d = s.desk;
         s = step(d, bytes, s.at, piece, s.from, table, room, out);
         let n = s.written;
-        io::write_all(1, &out[0..n]);
+        rt.write_all(&out[0..n]).ok();
     }
     let d = s.desk;
     Between { desk: d, at: s.at }
@@ -111,7 +115,7 @@ fn finish(
 }
 
 // A proved loop has to end, and nothing says that the input does: the count is one that no run uses up.
-fn main() {
+fn main(rt: HostRuntime) {
     let mut bytes = [0u8; LINE];
     let mut piece = [0u8; 65536];
     // Enough for every question and every reply, as the crate `rooms` shows.
@@ -123,11 +127,11 @@ fn main() {
         at: 0,
     };
     let mut more = true;
+    let mut input = rt.stdin();
     let mut reads = u64::MAX;
     while 0 < reads && more {
         reads -= 1;
-        let got = libc::read(0, &mut piece);
-        let n = io::count(got, &piece);
+        let n = input.read(&mut piece).unwrap_or(0);
         more = 0 < n;
         let d = b.desk;
         b = answer_piece(
@@ -138,10 +142,11 @@ fn main() {
             &mut table,
             &mut room,
             &mut out,
+            &rt,
         );
     }
     let d = b.desk;
     let last = finish(d, &bytes, b.at, &mut table, &mut room, &mut out);
     let n = last.written;
-    io::write_all(1, &out[0..n]);
+    rt.write_all(&out[0..n]).ok();
 }

@@ -1,4 +1,6 @@
 // Changes to a sheet: all go through one edit, made or taken back.
+#![tactic(auto)]
+
 ghost use Rattle.std.specs.Prelude.{◌≡◌, true};
 ghost use Rattle.terms.specs.Refusals.{first_fault};
 ghost use Rattle.changes.specs.Changes.{done_of, back_of, length_by, limits_by, place_fault, letter_fault, edit_faults, accepts, accepts_then};
@@ -9,7 +11,7 @@ use terms::alphabets::is_in;
 use terms::limits::{Limits, kind_refusal, lengths_refusal};
 
 // A change, with what it replaced.
-#[derive(Drop)]
+#[derive(Clone, Copy)]
 pub enum Change {
     Letter {
         place: usize,
@@ -39,7 +41,7 @@ pub enum Change {
 }
 
 // What a change does, or what takes it back.
-#[derive(Drop)]
+#[derive(Clone, Copy)]
 pub enum Edit {
     Letter { place: usize, byte: u8 },
     Kind { kind: usize, d: usize },

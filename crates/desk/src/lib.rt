@@ -1,4 +1,6 @@
 // The desk: one line in, one reply out, over 'no sheet yet' or a sheet.
+#![tactic(auto)]
+
 ghost use Rattle.std.specs.Prelude.{◌≡◌, true};
 ghost use Rattle.terms.specs.Texts.{text_all};
 ghost use Rattle.sheet.specs.Calls.{open_call, change_call, take_back_call, put_again_call};

@@ -1,4 +1,6 @@
 // Lines taken in from pieces of the input: where a line ends, and what is kept of it.
+#![tactic(auto)]
+
 ghost use Rattle.std.specs.Prelude.{◌≡◌, ◌+◌, ◌≤◌, length, drop};
 ghost use Rattle.printing.specs.Printing.{Put};
 ghost use Rattle.feed.specs.Feeding.{up_to_end, TakesOn};
@@ -9,7 +11,7 @@ use printing::put_bytes;
 pub const END: u8 = 10;
 
 // The bytes kept of a line, where the piece is read on, and whether the line is whole.
-#[derive(Drop)]
+#[derive(Clone, Copy)]
 pub struct Fed {
     pub at: usize,
     pub from: usize,

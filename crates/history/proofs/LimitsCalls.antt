@@ -2,6 +2,7 @@
 use mathlib.Core.Path.{◌≡◌, refl, sym, subst, ◌∙◌}
 use mathlib.Core.Bool.{true}
 use mathlib.Core.List.{◌∷◌}
+use Prim.Native.Nat.{ℕ}
 use Rattle.terms.specs.Refusals.{first_fault, OneOf}
 use Rattle.terms.specs.Limits.{kind_faults, lengths_faults, limits_faults}
 use Rattle.terms.specs.declared.limits.Limits.{Limits}
@@ -46,7 +47,7 @@ module _ (s : Sheet) where
 
   -- the number said is 0 or one of the call's list
   change_listed : (e : Edit) → OneOf (number_of (change_call s e).said) (0 ∷ numbers (change_faults s e))
-  change_listed e = rw (number_is (change_faults s e) s (changed s e) (changed_accepted s e)) (fault_listed (change_faults s e))
+  change_listed e = subst (λ (n : ℕ). OneOf n (0 ∷ numbers (change_faults s e))) (sym (number_is (change_faults s e) s (changed s e) (changed_accepted s e))) (fault_listed (change_faults s e))
 
   pub limits_laws : LimitsLaws s
   unfolding change_faults edit_faults kind_faults lengths_faults

@@ -5,7 +5,7 @@ ghost use Rattle.inspect.specs.Lending.{no_byte, three_bases, four_bases, bases_
 use terms::alphabets::all;
 
 // An alphabet by its name in a line.
-#[derive(Drop)]
+#[derive(Clone, Copy)]
 pub enum Alphabet {
     All,
     Bases,

@@ -8,7 +8,7 @@ use lines::{BYTES, Four, Number};
 use terms::limits::Limits;
 
 // What a line asks. Its string is the rest of the line from a place on; of two strings the second begins at a place of its own.
-#[derive(Drop)]
+#[derive(Clone, Copy)]
 pub enum Ask {
     Tiling {
         on_sheet: bool,

@@ -6,7 +6,7 @@ ghost use Rattle.inspect.specs.Showing.{step_text};
 use crate::alphabets::{count_of, flags_of};
 use crate::maps::{bytes_of, size_of};
 use crate::named::{Chosen, Letters, both_after};
-use hex::read_hex;
+use hexadecimal::read_hex;
 use lines::fields::{four_after, number_after, stands};
 use lines::{BYTES, Four, Number};
 use printing::put_line;
@@ -38,7 +38,7 @@ fn put_step(out: &mut [u8], found: Stepped) -> usize
 }
 
 // What a line about a file asks; the file begins at a place of the line.
-#[derive(Drop)]
+#[derive(Clone, Copy)]
 enum FileAsk {
     Step {
         place: usize,

@@ -1,4 +1,6 @@
 // The inspect program: lines from standard input, each answered on standard output before more input is waited for.
+#![tactic(auto)]
+
 mod alphabets;
 mod answers;
 mod asks;
@@ -12,6 +14,7 @@ ghost use Rattle.inspect.specs.Stepping.{Steps};
 
 use crate::answers::answer;
 use feed::feed;
+use std::io::Read;
 
 // The most bytes kept of a line: one more than a line may have, so that a line too long is seen to be so.
 const LINE: usize = 1041;
@@ -23,7 +26,7 @@ const LENT: usize = 9999;
 const REPLY: usize = 131072;
 
 // After a step: how many bytes are kept of the line, where the piece is read on, and how many bytes of a reply are to be written.
-#[derive(Drop)]
+#[derive(Clone, Copy)]
 struct Stepped {
     at: usize,
     from: usize,
@@ -70,6 +73,7 @@ fn answer_piece(
     table: &mut [u16],
     room: &mut [u8],
     out: &mut [u8],
+    rt: &HostRuntime,
 ) -> usize
     requires at_in_bounds { at ≤ length bytes.old }
     requires in_bounds { (9999 ≤ length table.old) × (9999 ≤ length room.old) }
@@ -83,13 +87,13 @@ fn answer_piece(
     while s.from < piece.len() {
         s = step(bytes, s.at, piece, s.from, table, room, out);
         let n = s.written;
-        io::write_all(1, &out[0..n]);
+        rt.write_all(&out[0..n]).ok();
     }
     s.at
 }
 
 // A proved loop has to end, and nothing says that the input does: the count is one that no run uses up.
-fn main() {
+fn main(rt: HostRuntime) {
     let mut bytes = [0u8; LINE];
     let mut piece = [0u8; 65536];
     let mut table = [0u16; LENT];
@@ -97,11 +101,11 @@ fn main() {
     let mut out = [0u8; REPLY];
     let mut at: usize = 0;
     let mut more = true;
+    let mut input = rt.stdin();
     let mut reads = u64::MAX;
     while 0 < reads && more {
         reads -= 1;
-        let got = libc::read(0, &mut piece);
-        let n = io::count(got, &piece);
+        let n = input.read(&mut piece).unwrap_or(0);
         more = 0 < n;
         at = answer_piece(
             &mut bytes,
@@ -110,10 +114,11 @@ fn main() {
             &mut table,
             &mut room,
             &mut out,
+            &rt,
         );
     }
     if 0 < at {
         let n = answer(&bytes[0..at], &mut table, &mut room, &mut out);
-        io::write_all(1, &out[0..n]);
+        rt.write_all(&out[0..n]).ok();
     }
 }

@@ -5,7 +5,7 @@ ghost use Rattle.inspect.specs.Lending.{shifted_map, paired_map, map_bytes, map_
 use terms::maps::{complement, plain};
 
 // A map by its name in a line.
-#[derive(Drop)]
+#[derive(Clone, Copy)]
 pub enum Map {
     Plain,
     Complement,

@@ -7,7 +7,7 @@ use crate::maps::Map;
 use lines::fields::stands;
 
 // A letter of a line, with the place after it.
-#[derive(Drop)]
+#[derive(Clone, Copy)]
 enum Letter {
     Is { byte: u8, next: usize },
     Not,
@@ -31,7 +31,7 @@ fn letter_after(s: &[u8], i: usize) -> Letter
 }
 
 // A map named in a line, with the place after its letter.
-#[derive(Drop)]
+#[derive(Clone, Copy)]
 pub enum Named {
     Is { map: Map, next: usize },
     Not,
@@ -77,7 +77,7 @@ pub fn map_after(s: &[u8], i: usize) -> Named
 }
 
 // An alphabet named in a line, with the place after its letter.
-#[derive(Drop)]
+#[derive(Clone, Copy)]
 pub enum Spelt {
     Is { alphabet: Alphabet, next: usize },
     Not,
@@ -127,14 +127,14 @@ fn alphabet_after(s: &[u8], i: usize) -> Spelt
 }
 
 // What a line names beside its string: a map and an alphabet.
-#[derive(Drop)]
+#[derive(Clone, Copy)]
 pub struct Letters {
     pub map: Map,
     pub alphabet: Alphabet,
 }
 
 // Both named in a line, with the place after them.
-#[derive(Drop)]
+#[derive(Clone, Copy)]
 pub enum Chosen {
     Are { letters: Letters, next: usize },
     Not,

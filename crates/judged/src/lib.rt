@@ -1,4 +1,6 @@
 // One returned record judged by itself: whether its six bytes are the record of a part of the string.
+#![tactic(auto)]
+
 ghost use Rattle.std.specs.Prelude.{◌+◌, ◌≤◌, ◌<◌, length};
 ghost use Rattle.terms.specs.Tells.{Tells};
 ghost use Rattle.terms.specs.Passed.{SoundString, EverySound, SoundLimits};

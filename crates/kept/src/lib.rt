@@ -1,4 +1,6 @@
 // The kept changes of a sheet: one array with two counts. kept[0..standing] stand, oldest first; the next `taken` are taken back, the next to put again first.
+#![tactic(auto)]
+
 ghost use Rattle.std.specs.Prelude.{◌≡◌, [], ◌∷◌, ◌+◌, ◌-◌, ◌≤◌, eqb};
 ghost use Rattle.terms.specs.Refusals.{first_fault};
 ghost use Rattle.kept.specs.Lists.{kept_at, kept_accepted};
@@ -8,13 +10,13 @@ use changes::{Change, Edit};
 use terms::CHANGES;
 
 // A change as the sheet keeps it: an array of structs, since a field can be no array of enums.
-#[derive(Drop)]
+#[derive(Clone, Copy)]
 pub struct Kept {
     pub what: Change,
 }
 
 // What popping the history answers.
-#[derive(Drop)]
+#[derive(Clone, Copy)]
 pub enum Popped {
     Change(Change),
     Nothing,

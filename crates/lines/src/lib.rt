@@ -1,4 +1,6 @@
 // One line of a call, read: what it asks, or that it is not understood.
+#![tactic(auto)]
+
 pub mod fields;
 
 ghost use Rattle.std.specs.Prelude.{◌≡◌};
@@ -13,7 +15,7 @@ use terms::limits::Limits;
 pub const BYTES: usize = 1040;
 
 // What a line asks. An opening's string is the rest of the line from a place on.
-#[derive(Drop)]
+#[derive(Clone, Copy)]
 pub enum Line {
     Open {
         limits: Limits,
@@ -30,28 +32,28 @@ pub enum Line {
 }
 
 // A number in a line, with the place after it.
-#[derive(Drop)]
+#[derive(Clone, Copy)]
 pub enum Number {
     Is { value: usize, next: usize },
     Not,
 }
 
 // Kind, m, g and d in a line, with the place after them.
-#[derive(Drop)]
+#[derive(Clone, Copy)]
 pub enum Four {
     Are { limits: Limits, next: usize },
     Missing,
 }
 
 // Two numbers behind a line's letter, up to its end.
-#[derive(Drop)]
+#[derive(Clone, Copy)]
 pub enum Two {
     Both { first: usize, second: usize },
     NotBoth,
 }
 
 // A place and a byte, up to the end of a line.
-#[derive(Drop)]
+#[derive(Clone, Copy)]
 pub enum Placed {
     At { place: usize, byte: u8 },
     Nowhere,

@@ -1,4 +1,6 @@
 // The longest palindrome of one string and of two, handed back as part of the caller's own.
+#![tactic(auto)]
+
 mod search;
 
 ghost use Rattle.std.specs.Prelude.{◌≡◌};

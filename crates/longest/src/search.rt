@@ -9,7 +9,7 @@ use terms::alphabets;
 use texts::flags::own_partner;
 
 // A part of a string by its place; of no letters where there is no palindrome.
-#[derive(Drop)]
+#[derive(Clone, Copy)]
 pub struct Span {
     pub start: usize,
     pub len: usize,

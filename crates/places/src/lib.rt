@@ -1,4 +1,6 @@
 // The 1,000 places of a sheet: a lent string, map and alphabet copied in, and the question on the first letters.
+#![tactic(auto)]
+
 ghost use Rattle.std.specs.Prelude.{◌≡◌, ◌≤◌, length, take};
 ghost use Rattle.terms.specs.Refusals.{first_fault};
 ghost use Rattle.terms.specs.Texts.{text, opening_faults};

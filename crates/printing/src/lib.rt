@@ -1,4 +1,6 @@
 // Lines printed into a lent room: a letter, numbers in decimal, a line end. A room that is too short takes what it can.
+#![tactic(auto)]
+
 ghost use Rattle.std.specs.Prelude.{[], ◌∷◌, ◌≤◌, length};
 ghost use Rattle.printing.specs.Printing.{decimal, fields, printed, Put};
 

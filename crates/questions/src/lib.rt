@@ -1,4 +1,6 @@
 // The tiling question without a sheet.
+#![tactic(auto)]
+
 ghost use Rattle.std.specs.Prelude.{◌≡◌, ◌≤◌, length};
 ghost use Rattle.terms.specs.Refusals.{first_fault};
 ghost use Rattle.terms.specs.Texts.{text};
@@ -19,7 +21,7 @@ use terms::limits::Limits;
 use terms::{CENTRES, LETTERS};
 
 // A refusal's number, or 0 with the gap total, the number of parts and the number of gaps; 12 also has the parts needed.
-#[derive(Drop)]
+#[derive(Clone, Copy)]
 pub struct Answer {
     pub number: usize,
     pub total: usize,

@@ -1,4 +1,6 @@
 // Part records read back, one record a step.
+#![tactic(auto)]
+
 ghost use Rattle.std.specs.Prelude.{◌≡◌, ◌+◌, ◌*◌, ◌≤◌, length};
 ghost use Rattle.terms.specs.Refusals.{first_fault};
 ghost use Rattle.reader.specs.Reader.{record_at, step_faults, step_of};
@@ -11,7 +13,7 @@ pub const PIECE: u8 = 80;
 pub const GAP: u8 = 71;
 
 // What a record says of its part.
-#[derive(Drop)]
+#[derive(Clone, Copy)]
 pub struct Record {
     pub tag: u8,
     pub errors: u8,
@@ -20,7 +22,7 @@ pub struct Record {
 }
 
 // A part with the place of the next, the end of the file, or a refusal's number.
-#[derive(Drop)]
+#[derive(Clone, Copy)]
 pub enum Stepped {
     Part(Record, usize),
     Finished,
@@ -86,7 +88,7 @@ pub fn step(file: &[u8], at: usize) -> Stepped
 }
 
 // A reader: the lent file, and the place of the next record.
-#[derive(Drop)]
+#[derive(Clone, Copy)]
 pub struct Reader<'a> {
     pub file: &'a [u8],
     pub place: usize,

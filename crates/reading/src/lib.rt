@@ -1,4 +1,6 @@
 // The tiling given, read out of the table.
+#![tactic(auto)]
+
 ghost use Rattle.std.specs.Prelude.{ℕ, ◌+◌, ◌-◌, ◌*◌, ◌<◌, ◌≤◌, length};
 ghost use Rattle.terms.specs.Tells.{Tells};
 ghost use Rattle.tilings.specs.Work.{board_by, Reaches, Tiled};
@@ -117,7 +119,7 @@ fn gap_length(
 }
 
 // A part by its number (twice its length, and one more for a gap), where the next part begins, and the gaps left.
-#[derive(Drop)]
+#[derive(Clone, Copy)]
 pub struct Next {
     pub code: u16,
     pub place: usize,
@@ -166,7 +168,7 @@ fn next_part(
 }
 
 // How many parts, and how many of them are gaps.
-#[derive(Drop)]
+#[derive(Clone, Copy)]
 pub struct Tally {
     pub parts: usize,
     pub gaps: usize,

@@ -1,4 +1,6 @@
 // Part records: six bytes a part, one after the other.
+#![tactic(auto)]
+
 ghost use Rattle.std.specs.Prelude.{◌≡◌, [], ◌∷◌, ◌++◌, ◌+◌, ◌*◌, ◌/◌, ◌%◌, ◌≤◌, length, take, drop};
 ghost use Rattle.terms.specs.Texts.{text_all};
 ghost use Rattle.tilings.specs.Laws.{length_of};

@@ -1,4 +1,6 @@
 // The text of every reply, put into a lent room.
+#![tactic(auto)]
+
 ghost use Rattle.std.specs.Prelude.{◌≡◌, [], ◌∷◌, ◌+◌, ◌*◌, ◌≤◌, length};
 ghost use Rattle.records.specs.Records.{record_size};
 ghost use Rattle.sheet.specs.Calls.{number_of};

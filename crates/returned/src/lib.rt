@@ -1,4 +1,6 @@
 // Part records that come back: whether they still agree with a string, its map, its limits and its alphabet.
+#![tactic(auto)]
+
 ghost use Rattle.std.specs.Prelude.{◌≡◌, ◌%◌, length};
 ghost use Rattle.terms.specs.Texts.{text};
 ghost use Rattle.terms.specs.Passed.{SoundText, SoundLimits};

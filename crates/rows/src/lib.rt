@@ -1,4 +1,6 @@
 // Rows of the table: numbers side by side, one for each number of gaps. Each function is one pass that can be vectorised.
+#![tactic(auto)]
+
 ghost use Rattle.std.specs.Prelude.{◌+◌, ◌*◌, ◌≤◌, ◌<◌, length};
 ghost use Rattle.tilings.specs.Work.{Lesser, Onward};
 ghost use Rattle.rows.specs.Rows.{Cleared, Lowered, Moved, Stored};

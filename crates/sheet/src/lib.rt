@@ -1,4 +1,6 @@
 // The sheet of a call: one string, its map, alphabet and limits, and the changes made to it.
+#![tactic(auto)]
+
 mod bounds;
 
 ghost use Rattle.std.specs.Prelude.{◌≡◌, true, ◌≤◌, ◌<◌, leb};
@@ -19,7 +21,7 @@ use terms::limits::Limits;
 use terms::{alphabets, maps};
 
 // What a call says back; for a refusal, its number.
-#[derive(Drop)]
+#[derive(Clone, Copy)]
 pub enum Said {
     Letter {
         place: usize,
@@ -96,7 +98,7 @@ impl Said {
 }
 
 // kept[0..standing] stand, oldest first; kept[standing..standing + taken] are taken back, the next to put again first.
-#[derive(Drop)]
+#[derive(Clone, Copy)]
 pub struct Sheet {
     pub letters: [u8; Sheet::LETTERS],
     pub n: usize,
@@ -109,7 +111,7 @@ pub struct Sheet {
 }
 
 // What a call hands back: the sheet afterwards, and what is said.
-#[derive(Drop)]
+#[derive(Clone, Copy)]
 pub struct Reply {
     pub sheet: Sheet,
     pub said: Said,

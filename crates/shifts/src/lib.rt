@@ -1,4 +1,6 @@
 // An edit of the letters in the 1,000 places of a sheet: behind a letter put in or taken out, the others shift by one.
+#![tactic(auto)]
+
 ghost use Rattle.std.specs.Prelude.{◌≡◌, true, ◌≤◌, ◌<◌};
 ghost use Rattle.changes.specs.Work.{fits};
 ghost use Rattle.shifts.specs.Shifts.{places_put_in, places_take_out, letters_by, replacing};

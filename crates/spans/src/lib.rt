@@ -1,4 +1,6 @@
 // Palindromes of a lent string: error counts, and the maximal lengths of all centres.
+#![tactic(auto)]
+
 pub mod outward;
 pub mod pairs;
 
@@ -66,7 +68,7 @@ fn centres_refusal(s: &[u8], map: &[u8], d: usize, lent: usize, alphabet: &[u8])
 }
 
 // A refusal's number and 0, or 0 and the number of centres.
-#[derive(Drop)]
+#[derive(Clone, Copy)]
 pub struct CentreCount {
     pub number: usize,
     pub count: usize,

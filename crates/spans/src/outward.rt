@@ -8,7 +8,7 @@ ghost use Rattle.spans.specs.Work.{Own, Unbarred};
 use crate::pairs::differ;
 
 // What stops a walk: the first pair that would exceed d, of which a middle letter is one with itself; an end of the string; or the bar.
-#[derive(Drop)]
+#[derive(Clone, Copy)]
 pub enum Stop {
     Pair { left: usize, right: usize },
     End,
@@ -16,7 +16,7 @@ pub enum Stop {
 }
 
 // How far a walk came: the length of the longest palindrome on it, 0 where there is none, and what stops it.
-#[derive(Drop)]
+#[derive(Clone, Copy)]
 pub struct Reach {
     pub length: u16,
     pub stop: Stop,
@@ -39,8 +39,8 @@ fn reached(c: usize, a: usize, stop: Stop) -> Reach
 // Outward from the middle of the centre c, until an end is met or the next pair would exceed d; for every alphabet that does not bar the centre.
 fn walk_out(s: &[u8], map: &[u8], d: usize, c: usize) -> Reach
     requires { (length map.now ≡ 256) × (length s.now ≤ 1000) × (c < centres (length s.now)) × (d ≤ 15) }
-    ensures every_sound { EverySound s.now map.now (Unbarred c) (λ x. MaximalLength x d c result.length) }
-    ensures every_sound_2 { EverySound s.now map.now (Unbarred c) (λ x. Stops x d c result.stop) }
+    ensures maximal { EverySound s.now map.now (Unbarred c) (λ x. MaximalLength x d c result.length) }
+    ensures stopped { EverySound s.now map.now (Unbarred c) (λ x. Stops x d c result.stop) }
 {
     let mut a = c / 2 + 1;
     let mut e = 0;
@@ -73,8 +73,8 @@ fn bars(c: usize, own: bool) -> bool
 // The maximal length of the centre c and what stops it; `own` says whether the map has an own-partner letter within the alphabet.
 pub fn walk(s: &[u8], map: &[u8], d: usize, c: usize, own: bool) -> Reach
     requires { (length map.now ≡ 256) × (length s.now ≤ 1000) × (c < centres (length s.now)) × (d ≤ 15) }
-    ensures every_sound { EverySound s.now map.now (Own own) (λ x. MaximalLength x d c result.length) }
-    ensures every_sound_2 { EverySound s.now map.now (Own own) (λ x. Stops x d c result.stop) }
+    ensures maximal { EverySound s.now map.now (Own own) (λ x. MaximalLength x d c result.length) }
+    ensures stopped { EverySound s.now map.now (Own own) (λ x. Stops x d c result.stop) }
 {
     if bars(c, own) {
         return Reach {

@@ -1,4 +1,6 @@
 // The question for one centre: how long its palindrome is, and what stops it.
+#![tactic(auto)]
+
 ghost use Rattle.std.specs.Prelude.{◌≡◌, [], ◌∷◌};
 ghost use Rattle.terms.specs.Refusals.{first_fault};
 ghost use Rattle.terms.specs.Texts.{text};
@@ -23,7 +25,7 @@ fn centre_refusal(s: &[u8], map: &[u8], d: usize, c: usize, alphabet: &[u8]) -> 
 }
 
 // A refusal's number with length 0 and the end, or 0, the maximal length of a centre and what stops it.
-#[derive(Drop)]
+#[derive(Clone, Copy)]
 pub struct CentreStop {
     pub number: usize,
     pub length: usize,
@@ -53,7 +55,7 @@ pub fn centre_stop(s: &[u8], map: &[u8], d: usize, c: usize, alphabet: &[u8]) ->
 }
 
 // A reply in numbers: the refusal's number and zeros, or 0, the length, the case's number and its two values.
-#[derive(Drop)]
+#[derive(Clone, Copy)]
 pub struct CentreFigures {
     pub number: usize,
     pub length: usize,

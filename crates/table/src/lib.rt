@@ -1,4 +1,6 @@
 // The table of least gap totals, row by row from the last letter, over the maximal lengths of a string's centres.
+#![tactic(auto)]
+
 ghost use Rattle.std.specs.Prelude.{◌≡◌, ◌+◌, ◌-◌, ◌*◌, ◌≤◌, ◌<◌, length, get_or};
 ghost use Rattle.terms.specs.Tells.{Tells};
 ghost use Rattle.tilings.specs.Tilings.{Table, entries};

@@ -1,4 +1,6 @@
 // What a question is put in: sizes, letter maps, alphabets, limits, and the refusals that concern these alone.
+#![tactic(auto)]
+
 pub mod alphabets;
 pub mod limits;
 pub mod maps;

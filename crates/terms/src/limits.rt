@@ -11,7 +11,7 @@ pub const GAPS: usize = 15;
 pub const ERRORS: usize = 15;
 
 // Kind, shortest length, gap limit and error limit travel together.
-#[derive(Drop)]
+#[derive(Clone, Copy)]
 pub struct Limits {
     pub kind: usize,
     pub m: usize,

@@ -1,4 +1,6 @@
 // A string with its map and alphabet, an opening's refusals, and those of two strings with one map.
+#![tactic(auto)]
+
 pub mod flags;
 
 ghost use Rattle.std.specs.Prelude.{◌≡◌};

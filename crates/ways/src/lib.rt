@@ -1,5 +1,7 @@
 // The way of a start: the centres that the table looks at for it, in rising order, each leading to the next.
 // For kind 2 it has the start's own pieces and nothing else; for kind 1 all centres, and the table drops those that ended.
+#![tactic(auto)]
+
 ghost use Rattle.std.specs.Prelude.{◌≡◌, ◌+◌, ◌-◌, ◌*◌, ◌≤◌, ◌<◌, length, get_or};
 ghost use Rattle.ways.specs.Ways.{Nowhere, Laid, EachNext, Entered};
 

@@ -1,0 +1,14 @@
+-- `answer_piece` meets its contract: the lines so far are answered, and what is kept is of the line that was begun. Assumes nothing.
+use Prim.Native.Nat.{◌-◌}
+use Rattle.call.proofs.Stepping.{onward_start, onward_next, onward_end}
+use native.Mathlib.Omega.{arith}
+use Rattle.call.proofs.answer_piece.Goals as goal
+
+pub loop-s-init : goal.loop-s-init
+loop-s-init c = (omega arith, onward_start _ _ _ c.args.piece.now)
+
+pub loop-s-preserved : goal.loop-s-preserved
+loop-s-preserved c = (omega arith, onward_next _ _ _ _ _ _ _ _ _ _ _ _ _ _ _ _ c.loop-s.invariant.1 c.step-s.ensures.stepping)
+
+pub returns : goal.returns
+returns c = record { at_bound = omega arith; reading = onward_end _ _ _ _ _ _ _ _ c.loop-s.invariant.1 c.loop-s-test.false }

@@ -1,0 +1,13 @@
+-- `answer_piece` meets its contract: the lines so far are answered, and what is kept is of the line that was begun. Assumes nothing.
+use mathlib.Core.Path.{◌≡◌}
+use Prim.Native.Nat.{◌-◌, ◌≤◌}
+use Rattle.call.specs.Steps.{state}
+use Rattle.call.proofs.Stepping.{Onward}
+use lib.ListN.{length}
+use Rattle.call.proofs.answer_piece.Given as goal
+
+abbrev pub invariant-loop-s : goal.invariant-loop-s
+invariant-loop-s l = ((length l.initial.s ≡ 1041) × (l.out.at ≤ 1041) × (l.out.from ≤ length l.piece) × (length l.bytes ≡ length l.initial.table) × (length l.table ≡ length l.initial.room) × (length l.room ≡ length l.initial.out)) × Onward (state l.rt.desk l.initial.table l.initial.room l.initial.out) l.initial.bytes l.at l.piece l.initial.s l.out.at l.out.from (state l.out.desk l.bytes l.table l.room)
+
+abbrev pub decreases-loop-s : goal.decreases-loop-s
+decreases-loop-s l = length l.piece - l.out.from

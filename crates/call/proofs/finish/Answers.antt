@@ -1,0 +1,12 @@
+-- `finish` meets its contract. Assumes nothing.
+use native.Mathlib.Nat.{sub-zero}
+use Rattle.printing.proofs.Laws.{put_end}
+use Rattle.call.proofs.Stepping.{finished_empty, finished_some}
+use native.Mathlib.Omega.{arith}
+use Rattle.call.proofs.finish.Goals as goal
+
+pub returns-then-at-eq0 : goal.returns-then-at-eq0
+returns-then-at-eq0 c = record { written_in_bounds = omega arith; finishing = finished_empty _ _ _ (omega arith) (omega arith) }
+
+pub returns : goal.returns
+returns c = let q = rw sub-zero at c.answer.ensures in record { written_in_bounds = put_end q.puts; finishing = finished_some _ _ _ (omega (arith, c.requires)) c.if-at-eq0.false q }

@@ -1,0 +1,12 @@
+-- `reset_room` meets its contract: the entries below i are set. Assumes nothing.
+use mathlib.Core.Path.{◌≡◌}
+use Rattle.terms.proofs.Ranges.{Filled}
+use Prim.Native.Nat.{◌≤◌, ◌-◌}
+use lib.ListN.{length}
+use Rattle.inspect.proofs.answers.reset_room.Given as goal
+
+abbrev pub invariant-loop-i : goal.invariant-loop-i
+invariant-loop-i l = (l.i ≤ length l.initial.room) × Filled (λ k v. v ≡ 9) 0 l.i l.initial.room l.room
+
+abbrev pub decreases-loop-i : goal.decreases-loop-i
+decreases-loop-i l = length l.initial.room - l.i

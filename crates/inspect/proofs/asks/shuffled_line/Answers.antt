@@ -1,0 +1,10 @@
+-- `shuffled_line` meets its contract. Assumes nothing.
+use Rattle.inspect.proofs.Reading.{place_in, four_digits}
+use native.Mathlib.Omega.{arith}
+use Rattle.inspect.proofs.asks.shuffled_line.Goals as goal
+
+pub overflow_add-result : goal.overflow_add-result
+overflow_add-result c = let h = place_in _ _ _ _ c.stands.ensures c.if-not-stands.false in omega arith
+
+pub returns : goal.returns
+returns c = let h = place_in _ _ _ _ c.stands.ensures c.if-not-stands.false in (four_digits _ _ _ _ _ c.number_after.ensures c.in-Is.is, omega arith)

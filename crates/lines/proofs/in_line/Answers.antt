@@ -1,0 +1,11 @@
+-- `in_line` meets its contract. Assumes nothing.
+use Rattle.lines.specs.Work.{in_line}
+use Rattle.lines.proofs.in_line.Goals as goal
+
+pub returns-in_default : goal.returns-in_default
+unfolding in_line
+returns-in_default c = simp (← c.place_byte.ensures, c.in_default.is)
+
+pub returns : goal.returns
+unfolding in_line
+returns c = simp (← c.place_byte.ensures, c.in-At.is)

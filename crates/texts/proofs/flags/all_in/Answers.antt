@@ -1,0 +1,25 @@
+-- `all_in` meets its contract: every letter passed is of the alphabet. Assumes nothing.
+use mathlib.Core.Path.{sym, ◌∙◌}
+use mathlib.Core.Bool.{true}
+use Prim.Native.Nat.{◌-◌}
+use native.Mathlib.Omega.{arith}
+use Rattle.terms.specs.Alphabets.{is_in, spelt}
+use Rattle.terms.proofs.Below.{below_zero, below_more, below_not, below_all}
+use Rattle.texts.proofs.flags.all_in.Goals as goal
+
+pub loop-k-init : goal.loop-k-init
+loop-k-init c = (omega arith, below_zero _)
+
+pub is_in-requires : goal.is_in-requires
+is_in-requires c = tt
+
+pub returns-then-not-is_in : goal.returns-then-not-is_in
+unfolding spelt
+returns-then-not-is_in c = sym (below_not _ _ c.loop-k.k (omega arith) (sym c.is_in.ensures ∙ c.if-not-is_in.true))
+
+pub loop-k-preserved : goal.loop-k-preserved
+loop-k-preserved c = (omega arith, below_more _ _ c.loop-k.invariant.1 (sym c.is_in.ensures ∙ c.if-not-is_in.false))
+
+pub returns : goal.returns
+unfolding spelt
+returns c = sym (below_all _ _ _ c.loop-k.invariant.1 (omega arith))
