@@ -1,10 +1,9 @@
 -- What a field that was read tells of its place and of its number. Assumes nothing.
 use mathlib.Core.Path.{◌≡◌, sym, ◌∙◌, subst}
-use mathlib.Core.Bool.{Bool, false, not}
+use mathlib.Core.Bool.{Bool, true}
 use mathlib.Core.List.{List}
 use Prim.Native.Nat.{ℕ, ◌+◌, ◌≤◌, ◌<◌}
 use native.Mathlib.Omega.{arith}
-use borrow.Author.Tests.{not-false}
 use lib.ListN.{length}
 use Rattle.lines.specs.Work.{stands, number_after}
 use Rattle.lines.specs.declared.Number.{Number}
@@ -26,8 +25,8 @@ use Rattle.inspect.specs.declared.alphabets.Alphabet.{Alphabet}
 use Rattle.inspect.specs.declared.named.Letters.{Letters}
 
 -- a byte that stands at a place stands in the line
-pub place_in : (xs : List ℕ) (i b : ℕ) (r : Bool) → r ≡ stands xs i b → not r ≡ false → i < length xs
-place_in xs i b r e left = stands_in xs i b (sym e ∙ not-false r left)
+pub place_in : (xs : List ℕ) (i b : ℕ) (r : Bool) → r ≡ stands xs i b → r ≡ true → i < length xs
+place_in xs i b r e left = stands_in xs i b (sym e ∙ left)
 
 -- a number has at most 4 digits
 pub four_digits : (xs : List ℕ) (i : ℕ) (r : Number) (v n : ℕ) → r ≡ number_after xs i → r ≡ Is v n → v ≤ 9999

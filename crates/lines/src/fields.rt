@@ -1,6 +1,6 @@
 // The fields of a line: a byte, a number, four numbers. Lent to `inspect`.
 ghost use Rattle.std.specs.Prelude.{◌≡◌, ◌+◌, ◌≤◌, length};
-ghost use Rattle.lines.specs.Work.{digit_at, stands as Work·stands, number_at, number_after, four_after};
+ghost use Rattle.lines.specs.Work.{digit_at, stands, number_at, number_after, four_after};
 
 use crate::{Four, Number};
 use terms::limits::Limits;
@@ -22,7 +22,7 @@ fn digit(s: &[u8], i: usize) -> usize
 
 // Whether a byte stands at a place.
 pub fn stands(s: &[u8], i: usize, b: u8) -> bool
-    ensures { result ≡ Work·stands s.now i b }
+    ensures { result ≡ stands s.now i b }
 {
     if i < s.len() {
         return s[i] == b;

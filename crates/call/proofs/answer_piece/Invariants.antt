@@ -7,7 +7,7 @@ use lib.ListN.{length}
 use Rattle.call.proofs.answer_piece.Given as goal
 
 abbrev pub invariant-loop-s : goal.invariant-loop-s
-invariant-loop-s l = ((length l.initial.s ≡ 1041) × (l.out.at ≤ 1041) × (l.out.from ≤ length l.piece) × (length l.bytes ≡ length l.initial.table) × (length l.table ≡ length l.initial.room) × (length l.room ≡ length l.initial.out)) × Onward (state l.rt.desk l.initial.table l.initial.room l.initial.out) l.initial.bytes l.at l.piece l.initial.s l.out.at l.out.from (state l.out.desk l.bytes l.table l.room)
+invariant-loop-s l = ((length l.bytes ≡ 1041) × (l.s.at ≤ 1041) × (l.s.from ≤ length l.piece) × (length l.table ≡ length l.initial.table) × (length l.room ≡ length l.initial.room) × (length l.out ≡ length l.initial.out)) × Onward (state l.initial.s.desk l.initial.table l.initial.room l.initial.out) l.initial.bytes l.at l.piece l.bytes l.s.at l.s.from (state l.s.desk l.table l.room l.out)
 
 abbrev pub decreases-loop-s : goal.decreases-loop-s
-decreases-loop-s l = length l.piece - l.out.from
+decreases-loop-s l = length l.piece - l.s.from

@@ -5,7 +5,7 @@ use lib.ListN.{length}
 use Rattle.inspect.proofs.main.Given as goal
 
 abbrev pub invariant-loop-reads : goal.invariant-loop-reads
-invariant-loop-reads l = (length l.initial.input ≡ 1041) × (length l.initial.reads ≡ 65536) × (length l.bytes ≡ 9999) × (length l.piece ≡ 9999) × (length l.table ≡ 131072) × (l.room ≤ 1041)
+invariant-loop-reads l = (length l.bytes ≡ 1041) × (length l.piece ≡ 65536) × (length l.table ≡ 9999) × (length l.room ≡ 9999) × (length l.out ≡ 131072) × (l.at ≤ 1041)
 
 abbrev pub decreases-loop-reads : goal.decreases-loop-reads
-decreases-loop-reads l = l.at
+decreases-loop-reads l = l.reads
