@@ -8,7 +8,7 @@ use borrow.Author.Tests.{eqb-false}
 use lib.Dec.{eqb}
 use lib.ListN.{length}
 use Rattle.terms.specs.Refusals.{first_fault}
-use Rattle.terms.specs.Texts.{Text, text, size, opening_faults}
+use Rattle.terms.specs.Texts.{Text, size, opening_faults}
 use Rattle.terms.specs.declared.limits.Limits.{Limits}
 use Rattle.changes.specs.Changes.{done_of, back_of}
 use Rattle.changes.specs.declared.Change.{Change}

@@ -1,5 +1,5 @@
 -- What a line that is read asks for: places in the line, and slices no longer than four digits can name. Working notions: no promise to a caller rests on reading them.
-use Rattle.std.specs.Prelude.{List, ℕ, ◌+◌, ◌≤◌, length}
+use Rattle.std.specs.Prelude.{List, ℕ, ◌≤◌, length}
 use Rattle.inspect.specs.declared.asks.Ask.{Ask}
 use Rattle.inspect.specs.declared.asks.Ask.TheVariants.{Tiling, Centres, Longest, Longer, Centre, Shuffled, Unknown}
 use Rattle.inspect.specs.declared.named.Letter.{Letter}

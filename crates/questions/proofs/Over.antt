@@ -1,7 +1,7 @@
 -- From what the engine finds to what is handed over of the string's own board. Assumes nothing.
 use mathlib.Core.Path.{◌≡◌, refl, sym, ap, ◌∙◌, subst}
 use mathlib.Core.List.{List, [], ◌∷◌, ◌++◌}
-use mathlib.Core.Logic.{◌⊎◌, inl, inr, ⊎_elim}
+use mathlib.Core.Logic.{inl, inr, ⊎_elim}
 use Prim.Native.Nat.{ℕ, ◌+◌, ◌*◌, ◌≤◌, ◌<◌}
 use native.Mathlib.Omega.{arith}
 use lib.ListN.{length, get_or, take, drop, length-map}
@@ -12,7 +12,7 @@ use Rattle.terms.specs.Passed.{SoundText, SoundLimits}
 use Rattle.terms.specs.declared.limits.Limits.{Limits}
 use Rattle.spans.specs.Centres.{Holds}
 use Rattle.spans.proofs.Exactness.{Bytes}
-use Rattle.tilings.specs.Tilings.{Board, Part, piece, gap, gaps, total, Tiles, None, Given, Least, Entry, entries, Table}
+use Rattle.tilings.specs.Tilings.{Board, Part, piece, gap, total, Tiles, None, Given, Least, Entry, entries, Table}
 use Rattle.tilings.specs.Work.{board_by, Tiled, decode, decoded}
 use Rattle.tilings.proofs.Covers.{gaps_fit}
 use Rattle.tilings.proofs.Heads.{given_total}

@@ -6,7 +6,7 @@ use native.Mathlib.Omega.{arith}
 use native.Mathlib.Numerals.{add-one, towards_suc}
 use lib.ListN.{length, get_or, take, drop, set, length-append, drop_of_length-le}
 use lib.Seq.{sets-eq, take_at, drop-cons, get_or-take, drop-drop, length-take-le, drop-append-add}
-use Rattle.terms.specs.Texts.{Text, size}
+use Rattle.terms.specs.Texts.{Text}
 use Rattle.spans.specs.Palindromes.{error_count}
 use Rattle.tilings.specs.Tilings.{Part, piece, gap}
 use Rattle.tilings.specs.Laws.{length_of}

@@ -1,7 +1,7 @@
 -- What is left of a file is a tiling: one record further, and at the end. Assumes nothing.
 use mathlib.Core.Path.{◌≡◌, refl, sym, ap, ap₂, ◌∙◌, subst}
 use mathlib.Core.List.{List, [], ◌∷◌, ◌++◌}
-use Prim.Native.Nat.{ℕ, ◌+◌, ◌≤◌, ◌<◌}
+use Prim.Native.Nat.{ℕ, ◌+◌, ◌≤◌}
 use native.Mathlib.Omega.{arith}
 use lib.ListN.{length, take, drop, length-drop, take-append-drop, drop_of_length-le}
 use lib.Seq.{take_at, drop_at, drop-drop}
@@ -9,7 +9,7 @@ use Rattle.terms.specs.Texts.{Text, size}
 use Rattle.terms.specs.declared.limits.Limits.{Limits}
 use Rattle.tilings.specs.Tilings.{Part, piece, gap, gaps, GapFirst, Tiles}
 use Rattle.tilings.specs.Laws.{length_of}
-use Rattle.boards.specs.Pieces.{Piece, board}
+use Rattle.boards.specs.Pieces.{board}
 use Rattle.records.specs.Records.{tag_of, record_of, records_from}
 use Rattle.reader.specs.Reader.{record_bytes}
 use Rattle.reader.specs.Laws.{saying_of}

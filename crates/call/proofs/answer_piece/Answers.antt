@@ -1,5 +1,4 @@
 -- `answer_piece` meets its contract: the lines so far are answered, and what is kept is of the line that was begun. Assumes nothing.
-use Prim.Native.Nat.{◌-◌}
 use Rattle.call.proofs.Stepping.{onward_start, onward_next, onward_end}
 use native.Mathlib.Omega.{arith}
 use Rattle.call.proofs.answer_piece.Goals as goal

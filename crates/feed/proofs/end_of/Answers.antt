@@ -1,7 +1,7 @@
 -- `end_of` meets its contract: the end is as far from place i as its bytes from there. Assumes nothing.
 use mathlib.Core.Path.{refl, ap}
 use mathlib.Core.List.{List}
-use Prim.Native.Nat.{ℕ, ◌-◌}
+use Prim.Native.Nat.{ℕ}
 use native.Mathlib.Omega.{arith}
 use lib.ListN.{length, drop_of_length-le}
 use Rattle.feed.specs.Feeding.{up_to_end}

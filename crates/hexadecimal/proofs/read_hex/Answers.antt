@@ -1,5 +1,4 @@
 -- `read_hex` meets its contract: k bytes are read. Assumes nothing.
-use Prim.Native.Nat.{◌-◌}
 use native.Mathlib.Omega.{arith}
 use Rattle.hexadecimal.proofs.Reading.{read_none, read_next, read_end, no_byte, byte_in}
 use Rattle.hexadecimal.proofs.read_hex.Goals as goal

@@ -1,5 +1,4 @@
 -- `accepted` meets its contract: too many changes break the bounds, else what is left to judge decides. Assumes nothing.
-use Prim.Native.Nat.{◌-◌}
 use mathlib.Core.Path.{sym, ◌∙◌}
 use native.Mathlib.Omega.{arith}
 use Rattle.changes.proofs.Accepting.{accepts_fits, then_first}

@@ -1,5 +1,4 @@
 -- `put_bytes` meets its contract: the first i bytes are put. Assumes nothing.
-use Prim.Native.Nat.{◌-◌}
 use native.Mathlib.Omega.{arith}
 use lib.Seq.{take_all}
 use Rattle.printing.proofs.Laws.{put_none, put_length, and_then, take_next}

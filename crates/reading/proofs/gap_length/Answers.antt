@@ -1,5 +1,5 @@
 -- `gap_length` meets its contract: no gap shorter than len may stop. Assumes nothing.
-use Prim.Native.Nat.{◌-◌, ◌≤◌}
+use Prim.Native.Nat.{◌≤◌}
 use native.Mathlib.Omega.{arith}
 use borrow.Author.Count.{below_more}
 use Rattle.terms.proofs.Told.{told_yes, told_no}

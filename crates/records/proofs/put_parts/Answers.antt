@@ -1,5 +1,4 @@
 -- `put_parts` meets its contract: the first k records are stored. Assumes nothing.
-use Prim.Native.Nat.{◌-◌}
 use native.Mathlib.Omega.{arith}
 use Rattle.records.proofs.Putting.{putting_start, putting_fit, putting_next, putting_end}
 use Rattle.records.proofs.put_parts.Goals as goal

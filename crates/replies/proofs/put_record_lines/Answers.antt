@@ -1,5 +1,4 @@
 -- `put_record_lines` meets its contract: the lines of the first k records are put. Assumes nothing.
-use Prim.Native.Nat.{◌-◌}
 use native.Mathlib.Numerals.{add-one}
 use Rattle.printing.proofs.Laws.{put_none, put_length, and_then}
 use Rattle.replies.proofs.Lines.{all_lines}

@@ -1,5 +1,4 @@
 -- `all_right` meets its contract: the records before a place are right. Assumes nothing.
-use Prim.Native.Nat.{◌-◌}
 use native.Mathlib.Omega.{arith}
 use Rattle.terms.specs.Texts.{text}
 use Rattle.terms.proofs.Passed.{sound_letters}

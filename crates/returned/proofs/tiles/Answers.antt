@@ -1,5 +1,4 @@
 -- `tiles` meets its contract: the file agrees exactly when what is left does. Assumes nothing.
-use Prim.Native.Nat.{◌-◌}
 use native.Mathlib.Omega.{arith}
 use Rattle.reader.proofs.Bytes.{read_small}
 use Rattle.returned.proofs.Following.{follow_start, whole, off_start, off_gap, follow_next, off_end, follow_end, count_small}

@@ -1,6 +1,5 @@
 -- `clear` meets its contract: the numbers below q are 65535. Assumes nothing.
 use mathlib.Core.Path.{refl}
-use Prim.Native.Nat.{◌-◌}
 use native.Mathlib.Omega.{arith}
 use Rattle.terms.proofs.Ranges.{fill_none, fill_up}
 use Rattle.rows.proofs.clear.Goals as goal

@@ -1,5 +1,4 @@
 -- `lower` meets its contract: the numbers below q are lowered. Assumes nothing.
-use Prim.Native.Nat.{◌-◌}
 use native.Mathlib.Omega.{arith}
 use Rattle.terms.proofs.Ranges.{fill_none, fill_up}
 use Rattle.rows.proofs.lower.Goals as goal

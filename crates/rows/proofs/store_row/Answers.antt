@@ -1,5 +1,4 @@
 -- `store_row` meets its contract: the numbers of row i below q are stored. Assumes nothing.
-use Prim.Native.Nat.{◌-◌}
 use native.Mathlib.Omega.{arith}
 use Rattle.rows.proofs.Storing.{storing_none, storing_next, storing_end}
 use Rattle.rows.proofs.store_row.Goals as goal

@@ -1,6 +1,5 @@
 -- `take_out` meets its contract: the places up to i are one further down. Assumes nothing.
 use borrow.Author.Rules.{rules}
-use Prim.Native.Nat.{◌-◌}
 use Rattle.shifts.proofs.Shifting.{down_start, down_turn, down_end}
 use lib.ListN.{length}
 use mathlib.Core.Path.{◌≡◌}

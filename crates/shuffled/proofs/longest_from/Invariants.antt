@@ -1,5 +1,5 @@
 -- `longest_from` meets its contract: the word is that of the letters left, and no longer length passes. Assumes nothing.
-use Prim.Native.Nat.{◌+◌, ◌-◌, ◌≤◌}
+use Prim.Native.Nat.{◌+◌, ◌≤◌}
 use lib.ListN.{length}
 use Rattle.shuffled.specs.Work.{ParityWord}
 use Rattle.shuffled.proofs.Parities.{NoLonger}

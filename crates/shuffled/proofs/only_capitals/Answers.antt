@@ -1,7 +1,5 @@
 -- `only_capitals` meets its contract: every byte passed is one of A to Z. Assumes nothing.
 use mathlib.Core.Path.{sym, ◌∙◌}
-use mathlib.Core.Bool.{true}
-use Prim.Native.Nat.{◌-◌}
 use native.Mathlib.Omega.{arith}
 use Rattle.terms.proofs.Below.{below_zero, below_more, below_not, below_all}
 use Rattle.shuffled.specs.Shuffled.{capitals}

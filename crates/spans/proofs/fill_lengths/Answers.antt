@@ -1,5 +1,4 @@
 -- `fill_lengths` meets its contract: the entries below c hold their centres' maximal lengths. Assumes nothing.
-use Prim.Native.Nat.{◌-◌}
 use native.Mathlib.Omega.{arith}
 use Rattle.terms.proofs.Ranges.{fill_none, fill_up}
 use Rattle.spans.proofs.fill_lengths.Goals as goal

@@ -1,6 +1,5 @@
 -- `fill_table` meets its contract: the rows from i on are made, and the ways lead on for the starts up to i. Assumes nothing.
 use mathlib.Core.Path.{◌≡◌}
-use Prim.Native.Nat.{◌-◌}
 use lib.ListN.{length}
 use Rattle.tilings.specs.Work.{board_by}
 use Rattle.ways.specs.Ways.{Next}

@@ -1,5 +1,4 @@
 -- `piece_row` meets its contract: the row has the least totals of the tilings that begin with a piece of a centre before c. Assumes nothing.
-use Prim.Native.Nat.{◌-◌}
 use Rattle.table.proofs.Rows.{row_none, row_all}
 use Rattle.table.proofs.Dropping.{along_first, along_next, row_onward}
 use native.Mathlib.Omega.{arith}

@@ -1,5 +1,4 @@
 -- `lay_own` meets its contract: the centres from c - 1 on are entered. Assumes nothing.
-use Prim.Native.Nat.{◌-◌}
 use native.Mathlib.Omega.{arith}
 use Rattle.ways.proofs.Entering.{enter_start, entered_from}
 use Rattle.ways.proofs.Laying.{laid_own}

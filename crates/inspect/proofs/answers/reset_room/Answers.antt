@@ -2,7 +2,6 @@
 use mathlib.Core.Path.{refl}
 use Rattle.terms.proofs.Ranges.{fill_none, fill_up}
 use Rattle.inspect.proofs.Lending.{all_nines}
-use Prim.Native.Nat.{◌-◌}
 use native.Mathlib.Omega.{arith}
 use Rattle.inspect.proofs.answers.reset_room.Goals as goal
 

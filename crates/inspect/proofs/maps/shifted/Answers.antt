@@ -3,7 +3,7 @@ use mathlib.Core.Path.{refl}
 use Rattle.terms.proofs.Ranges.{fill_none, fill_up}
 use Rattle.terms.proofs.Supplied.{rule_filled}
 use Rattle.inspect.specs.Lending.{shifted_map}
-use Prim.Native.Nat.{◌+◌, ◌%◌, ◌-◌}
+use Prim.Native.Nat.{◌+◌, ◌%◌}
 use native.Mathlib.Omega.{arith}
 use Rattle.inspect.proofs.maps.shifted.Goals as goal
 

@@ -1,5 +1,4 @@
 -- `put_room` meets its contract: after the letter the first i numbers are put. Assumes nothing.
-use Prim.Native.Nat.{◌-◌}
 use lib.Seq.{take_all}
 use Rattle.printing.proofs.Laws.{put_none, put_end, put_length, and_then, fields_next}
 use native.Mathlib.Omega.{arith}

@@ -1,5 +1,4 @@
 -- `first_longest` meets its contract: the best of the centres below c is kept. Assumes nothing.
-use Prim.Native.Nat.{◌-◌}
 use mathlib.Core.Path.{refl, ap, ◌∙◌}
 use native.Mathlib.Omega.{arith}
 use Rattle.longest.proofs.Firsts.{length_fits, search_start, search_next, search_end}

@@ -1,7 +1,7 @@
 -- `count_errors` meets its contract: what is counted and what is left make up the whole. Assumes nothing.
 use Rattle.spans.proofs.Walking.{one_le}
 use Rattle.spans.proofs.Counting.{inward_step, inward_one, inward_none}
-use Prim.Native.Nat.{ℕ, ◌-◌, ◌≤◌}
+use Prim.Native.Nat.{ℕ, ◌≤◌}
 use mathlib.Core.Path.{sym, subst}
 use native.Mathlib.Omega.{arith}
 use Rattle.spans.proofs.pairs.count_errors.Goals as goal

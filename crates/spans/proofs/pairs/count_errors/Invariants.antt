@@ -1,6 +1,6 @@
 -- `count_errors` meets its contract: what is counted and what is left make up the whole. Assumes nothing.
 use Rattle.spans.specs.Palindromes.{error_count}
-use Prim.Native.Nat.{◌+◌, ◌-◌, ◌≤◌}
+use Prim.Native.Nat.{◌+◌, ◌≤◌}
 use mathlib.Core.Path.{◌≡◌}
 use Rattle.spans.proofs.pairs.count_errors.Given as goal
 

@@ -1,6 +1,5 @@
 -- `complement` meets its contract: the entries below x hold their partners. Assumes nothing.
 use mathlib.Core.Path.{refl, ◌∙◌}
-use Prim.Native.Nat.{◌-◌}
 use native.Mathlib.Omega.{arith}
 use Rattle.terms.specs.Maps.{partner, complement_map}
 use Rattle.terms.proofs.Ranges.{fill_none, fill_up}

@@ -1,7 +1,5 @@
 -- `own_inverse` meets its contract: the invariant says that every byte passed comes back. Assumes nothing.
 use mathlib.Core.Path.{sym}
-use mathlib.Core.Bool.{true}
-use Prim.Native.Nat.{◌-◌}
 use native.Mathlib.Omega.{arith}
 use borrow.Author.Tests.{eq-eqb, ne_eqb}
 use lib.ListN.{get_or}

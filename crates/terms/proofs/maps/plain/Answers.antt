@@ -1,6 +1,5 @@
 -- `plain` meets its contract: the entries below x hold their own place. Assumes nothing.
 use mathlib.Core.Path.{refl}
-use Prim.Native.Nat.{◌-◌}
 use native.Mathlib.Omega.{arith}
 use Rattle.terms.specs.Maps.{plain_map}
 use Rattle.terms.proofs.Ranges.{fill_none, fill_up}

@@ -1,9 +1,7 @@
 -- `all_in` meets its contract: every letter passed is of the alphabet. Assumes nothing.
 use mathlib.Core.Path.{sym, ◌∙◌}
-use mathlib.Core.Bool.{true}
-use Prim.Native.Nat.{◌-◌}
 use native.Mathlib.Omega.{arith}
-use Rattle.terms.specs.Alphabets.{is_in, spelt}
+use Rattle.terms.specs.Alphabets.{spelt}
 use Rattle.terms.proofs.Below.{below_zero, below_more, below_not, below_all}
 use Rattle.texts.proofs.flags.all_in.Goals as goal
 

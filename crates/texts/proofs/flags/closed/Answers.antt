@@ -1,7 +1,5 @@
 -- `closed` meets its contract: the partners of all letters passed are letters. Assumes nothing.
 use mathlib.Core.Path.{sym, ◌∙◌}
-use mathlib.Core.Bool.{true}
-use Prim.Native.Nat.{◌-◌}
 use native.Mathlib.Omega.{arith}
 use Rattle.terms.specs.Alphabets.{closed_under}
 use Rattle.terms.proofs.Below.{below_zero, below_more, below_not, below_all}

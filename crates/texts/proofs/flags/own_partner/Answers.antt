@@ -1,7 +1,5 @@
 -- `own_partner` meets its contract: no byte passed is an own-partner letter. Assumes nothing.
 use mathlib.Core.Path.{sym, ◌∙◌}
-use mathlib.Core.Bool.{false}
-use Prim.Native.Nat.{◌-◌}
 use native.Mathlib.Omega.{arith}
 use Rattle.terms.specs.Alphabets.{own_partner}
 use Rattle.terms.proofs.Below.{some_none, some_not, some_yes, some_none_of}
