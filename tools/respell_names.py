@@ -19,7 +19,8 @@ MEET_NOWHERE = {"too_long", "no_byte"}
 
 WORD = r"[^\s(){}.;,@\"«»\[\]\\:]+"
 MARKS = r"(?:pub\s+|abbrev\s+|unfoldable\s+|ruleset\s+)*"
-DECLARED = re.compile(r"^\s*" + MARKS + r"(" + WORD + r")\s*:\s")
+# One name or, as for the cases of a data type, several; levels in braces may follow.
+DECLARED = re.compile(r"^\s*" + MARKS + r"(" + WORD + r"(?:\s+" + WORD + r")*)(?:\s+\{[^}]*\})?\s*:(?:\s|$)")
 TOKEN = re.compile(r"--[^\n]*|\"(?:[^\"\\\n]|\\.)*\"|" + WORD)
 RUST_TOKEN = re.compile(r"//[^\n]*|b?'(?:[^'\\\n]|\\.)'|\"(?:[^\"\\\n]|\\.)*\"|" + WORD)
 QUOTED = re.compile(r"`([^`\n]+)`")
@@ -45,12 +46,17 @@ def declared():
         for line in read(path).split("\n"):
             found = DECLARED.match(line)
             if found:
-                names.add(found.group(1))
+                names.update(found.group(1).split())
     return names
 
 
 def table(names):
+    if "withTwo" in names:
+        # The script of the kit has spelled the lemma `with-two` already.
+        names = names - {"with_two"}
     new_names = {name: spelled(name) for name in names if spelled(name) != name}
+    if "withTwo" in names:
+        new_names["with_two"] = "with_two_lem"
     olds = collections.defaultdict(set)
     for name in names:
         olds[spelled(name)].add(name)

@@ -40,7 +40,7 @@ fn step(
     out: &mut [u8],
 ) -> Progress
     requires { (length bytes.old ≡ 1041) × (at ≤ 1041) × (from < length piece.now) × (16016 ≤ length table.old) × (6000 ≤ length room.old) × (65536 ≤ length out.old) }
-    ensures from_lt_from { (from < result.from) × (result.from ≤ length piece.now) × (result.at ≤ 1041) × (result.written ≤ length out.old) }
+    ensures advances { (from < result.from) × (result.from ≤ length piece.now) × (result.at ≤ 1041) × (result.written ≤ length out.old) }
     ensures stepping { Stepping desk bytes.old bytes.new at piece.now from table.old table.new room.old room.new out.old out.new result }
 {
     let fed = feed(bytes, at, piece, from);

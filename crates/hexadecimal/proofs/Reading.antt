@@ -9,7 +9,7 @@ use borrow.Author.Tests.{lt-ltb, le-ltb, ltb-false}
 use lib.Dec.{ltb}
 use lib.ListN.{length, get_or, set}
 use Rattle.terms.proofs.Order.{le_or_lt}
-use Rattle.terms.proofs.Ranges.{Filled, fill_none, fill_up, entries-unique}
+use Rattle.terms.proofs.Ranges.{Filled, fill_none, fill_up, entries_unique}
 use Rattle.hexadecimal.specs.Hex.{digit_of, pair_of, byte_at, Reads, OneReading}
 use Rattle.hexadecimal.specs.declared.HexRead.{HexRead}
 
@@ -101,7 +101,7 @@ one_reading xs from room a b r s p q =
     (λ (h : r.bytes < s.bytes). absurd (stops xs from room a b r s p q h))
     (le_or_lt s.bytes r.bytes) in
     let next : r.next ≡ s.next = let i = p.next in let j = q.next in omega arith in (
-      entries-unique (λ k v. v ≡ byte_at xs (from + 2 * k)) (λ k v w h g. h ∙ sym g) r.bytes room a b p.long q.long p.held
+      entries_unique (λ k v. v ≡ byte_at xs (from + 2 * k)) (λ k v w h g. h ∙ sym g) r.bytes room a b p.long q.long p.held
           (λ k h. q.held k (omega arith)) p.stay (λ k h. q.stay k (omega arith)),
       ap₂ reading same next,
     )

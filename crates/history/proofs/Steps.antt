@@ -21,7 +21,7 @@ use Rattle.sheet.specs.declared.Said.{Said}
 use Rattle.sheet.specs.declared.Sheet.{Sheet}
 use Rattle.sheet.proofs.Within.{bounds}
 use Rattle.sheet.proofs.Replying.{answer_no, answer_yes, change_sound, back_number, again_number}
-use Rattle.history.specs.History.{Content, History, Request, change, takeBack, putAgain, make, back, made, moved, accept, refuse, faults_of, decide, reckon}
+use Rattle.history.specs.History.{Content, History, Request, change, take_back, put_again, make, back, made, moved, accept, refuse, faults_of, decide, reckon}
 use Rattle.history.specs.Runs.{standing_from, standing_of, perform}
 use Rattle.history.proofs.Lists.{standing_length}
 use Rattle.history.proofs.Edits.{make_back}
@@ -56,7 +56,7 @@ module _ (o : Content) where
   replied x r r' e A = rw e A
 
   back_step : (s : Sheet) (st tk : ℕ) → Invariant o (counting s st tk)
-      → Agrees o (take_back_call (counting s st tk)) (reckon (history_of o (counting s st tk)) takeBack)
+      → Agrees o (take_back_call (counting s st tk)) (reckon (history_of o (counting s st tk)) take_back)
   back_step s zero tk S = replied _ _ _ (back_refused (counting s 0 tk) S.bounds refl) (S, refl)
   back_step s (suc j) tk S =
       let c : Change = kept_at s.kept j in
@@ -74,7 +74,7 @@ module _ (o : Content) where
       (moved_agrees S (back_of c) (newest_back s.n s.alphabet s.kept j tk k) j (suc tk) (kept_back s.n s.alphabet s.kept j tk k) (omega arith) m))
 
   again_step : (s : Sheet) (st tk : ℕ) → Invariant o (counting s st tk)
-      → Agrees o (put_again_call (counting s st tk)) (reckon (history_of o (counting s st tk)) putAgain)
+      → Agrees o (put_again_call (counting s st tk)) (reckon (history_of o (counting s st tk)) put_again)
   again_step s st zero S = replied _ _ _ (again_refused (counting s st 0) S.bounds refl) (S, refl)
   again_step s st (suc t) S =
       let k = (bounds (counting s st (suc t)) S.bounds).kept in
@@ -106,5 +106,5 @@ module _ {o : Content} {s : Sheet} (S : Invariant o s) where
 
   pub step : (q : Request) → Agrees o (perform s q) (reckon (history_of o s) q)
   step (change e) = decided e
-  step takeBack = back_step o s s.standing s.taken S
-  step putAgain = again_step o s s.standing s.taken S
+  step take_back = back_step o s s.standing s.taken S
+  step put_again = again_step o s s.standing s.taken S

@@ -22,7 +22,7 @@ use Rattle.sheet.specs.declared.Said.TheVariants.{Opened}
 use Rattle.sheet.specs.declared.Sheet.{Sheet}
 use Rattle.sheet.proofs.Within.{bounds}
 use Rattle.sheet.proofs.Replying.{answer_no, number_is, applied_accepted, changed_accepted}
-use Rattle.history.specs.History.{Content, History, change, takeBack, putAgain, made, back, say_back, start, accept, refuse, faults_of, decide, reckon}
+use Rattle.history.specs.History.{Content, History, change, take_back, put_again, made, back, say_back, start, accept, refuse, faults_of, decide, reckon}
 use Rattle.history.specs.Runs.{content_of, standing_of, taken_of, perform, Exchange, requested, asked, Run, after, Faithful}
 use Rattle.history.specs.Demand3.{Came, Demand3, NeverMore, AlphabetStays, RefusedStays, BackAndAgain, ChangeAndBack}
 use Rattle.history.specs.Openings.{BlankToo, OpensAnew}
@@ -97,8 +97,8 @@ stays fs s r z n = ap (λ (a : Reply). a.sheet) (answer_no fs s r (first_fault f
 
 pub refused_stays : RefusedStays
 refused_stays s (change e) = stays _ s _ (changed_accepted s e)
-refused_stays s takeBack = stays _ s _ (applied_accepted s _ _ _)
-refused_stays s putAgain = stays _ s _ (applied_accepted s _ _ _)
+refused_stays s take_back = stays _ s _ (applied_accepted s _ _ _)
+refused_stays s put_again = stays _ s _ (applied_accepted s _ _ _)
 
 pub blank_too : BlankToo
 unfolding blank_sheet
@@ -132,9 +132,9 @@ restored o s (suc j) tk S z =
     let was : Sheet = counting s (suc j) tk in
     let s1 : Sheet = (applied was (back_of c) j (suc tk)).sheet in
     let b : take_back_call was ≡ applied was (back_of c) j (suc tk) = back_made s j tk S.bounds in
-    let B : Invariant o s1 = rw b at (step S takeBack).0 in
+    let B : Invariant o s1 = rw b at (step S take_back).0 in
     let g : put_again_call s1 ≡ applied s1 (done_of c) (suc j) tk = again_made s1 j tk B.bounds in
-    let G : Invariant o (applied s1 (done_of c) (suc j) tk).sheet = rw g at (step B putAgain).0 in
+    let G : Invariant o (applied s1 (done_of c) (suc j) tk).sheet = rw g at (step B put_again).0 in
     rw (b, g) (applied_accepted s1 (done_of c) (suc j) tk, invariant_same o _ was G S refl refl refl)
 
 pub back_and_again : BackAndAgain
@@ -168,10 +168,10 @@ module _ {o : Content} {s : Sheet} (S : Invariant o s) (e : Edit) where
   undone z =
       let h : History = history_of o s in
       let A = step S (change e) in
-      let B = step A.0 takeBack in
+      let B = step A.0 take_back in
       let n : number_of (decide h e).1 ≡ 0 = ap (λ (y : History × Said). number_of y.1) A.1 ∙ z in
       let a : history_of o (change_call s e).sheet ≡ (accept h e).0 = ap (λ (y : History × Said). y.0) (sym A.1 ∙ decide_accepts h e n) in
-      let b : (history_of o again.sheet, again.said) ≡ reckon (accept h e).0 takeBack = sym B.1 ∙ ap (λ (y : History). reckon y takeBack) a in
+      let b : (history_of o again.sheet, again.said) ≡ reckon (accept h e).0 take_back = sym B.1 ∙ ap (λ (y : History). reckon y take_back) a in
       let t : standing_of again.sheet ≡ standing_of s = ap (λ (y : History × Said). y.0.standing) b in (
         ap (λ (y : History × Said). number_of y.1) b ∙ says_none (back (made o (standing_of s)) e) _ _ _,
         content_is B.0.holds ∙ ap (made o) t ∙ sym (content_is S.holds),

@@ -8,7 +8,7 @@ use Rattle.sheet.specs.Calls.{open_call}
 use Rattle.sheet.specs.declared.Said.{Said}
 use Rattle.sheet.specs.declared.Said.TheVariants.{Letter as SaidLetter, Opened, No}
 use Rattle.sheet.specs.declared.Sheet.{Sheet}
-use Rattle.history.specs.History.{change, takeBack, putAgain}
+use Rattle.history.specs.History.{change, take_back, put_again}
 use Rattle.history.specs.Runs.{Exchange, requested, Run}
 
 abbrev pub example_text : Text
@@ -25,10 +25,10 @@ ExampleOpens = (open_call example_text example_limits).said ≡ Opened 7
 abbrev pub example_calls : Said → Said → Said → Said → Said → Said → List Exchange
 example_calls a b c d e f =
     requested (change (Letter 6 84)) a
-    ∷ requested takeBack b
-    ∷ requested putAgain c
-    ∷ requested takeBack d
-    ∷ requested takeBack e
+    ∷ requested take_back b
+    ∷ requested put_again c
+    ∷ requested take_back d
+    ∷ requested take_back e
     ∷ requested (change (Letter 7 84)) f
     ∷ []
 

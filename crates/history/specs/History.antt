@@ -64,7 +64,7 @@ current h = made h.opening h.standing
 -- A call that asks for a change, of any kind, or moves one.
 pub data Request : Type 0 where
   change : Edit → Request
-  takeBack putAgain : Request
+  take_back put_again : Request
 
 -- From a history to the next by the edit e: what is said compares the two.
 abbrev pub moved : History → Edit → History → History × Said
@@ -102,5 +102,5 @@ again_from h (e ∷ es) = moved h e (record { opening = h.opening; standing = e 
 -- What a request makes of the history, and what is said back.
 abbrev pub reckon : History → Request → History × Said
 reckon h (change e) = decide h e
-reckon h takeBack = back_from h h.standing
-reckon h putAgain = again_from h h.taken
+reckon h take_back = back_from h h.standing
+reckon h put_again = again_from h h.taken

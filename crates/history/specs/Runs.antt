@@ -12,7 +12,7 @@ use Rattle.sheet.specs.Question.{SheetReply}
 use Rattle.sheet.specs.declared.Said.{Said}
 use Rattle.sheet.specs.declared.Sheet.{Sheet}
 use Rattle.sheet.specs.declared.Reply.{Reply}
-use Rattle.history.specs.History.{Content, History, Request, change, takeBack, putAgain, current, reckon}
+use Rattle.history.specs.History.{Content, History, Request, change, take_back, put_again, current, reckon}
 
 -- A sheet's letters, map, alphabet and limits.
 abbrev pub content_of : Sheet → Content
@@ -36,8 +36,8 @@ taken_of s = taken_from s.kept s.standing s.taken
 -- What a request does on a sheet, by the promises of the calls.
 abbrev pub perform : Sheet → Request → Reply
 perform s (change e) = change_call s e
-perform s takeBack = take_back_call s
-perform s putAgain = put_again_call s
+perform s take_back = take_back_call s
+perform s put_again = put_again_call s
 
 -- A call with its answer: a request with what is said; a tiling question with table and room as lent, table and room as left, and the reply.
 pub data Exchange : Type 0 where

@@ -43,8 +43,8 @@ fn step(
     room: &mut [u8],
     out: &mut [u8],
 ) -> Stepped
-    requires at_in_bounds { (at ≤ length bytes.old) × (from < length piece.now) }
-    requires in_bounds { (9999 ≤ length table.old) × (9999 ≤ length room.old) }
+    requires place { (at ≤ length bytes.old) × (from < length piece.now) }
+    requires rooms_lent { (9999 ≤ length table.old) × (9999 ≤ length room.old) }
     ensures { Steps (length bytes.old) (length piece.now) from (length out.old) result }
 {
     let fed = feed(bytes, at, piece, from);
@@ -75,8 +75,8 @@ fn answer_piece(
     out: &mut [u8],
     rt: &HostRuntime,
 ) -> usize
-    requires at_in_bounds { at ≤ length bytes.old }
-    requires in_bounds { (9999 ≤ length table.old) × (9999 ≤ length room.old) }
+    requires place { at ≤ length bytes.old }
+    requires rooms_lent { (9999 ≤ length table.old) × (9999 ≤ length room.old) }
     ensures { result ≤ length bytes.old }
 {
     let mut s = Stepped {

@@ -26,7 +26,7 @@ fn right_piece(
 ) -> bool
     requires sound_string { SoundString s.now map.now }
     requires sound_limits { SoundLimits limits }
-    requires start_bound { (start < 65536) × (len < 65536) }
+    requires sizes { (start < 65536) × (len < 65536) }
     ensures { EverySound s.now map.now (Own own) (λ x. Tells result (RightPiece x limits start len errors)) }
 {
     let kind = limits.kind;

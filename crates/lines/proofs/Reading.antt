@@ -19,8 +19,8 @@ use Rattle.lines.specs.declared.Placed.{Placed}
 use Rattle.lines.specs.declared.Placed.TheVariants.{At, Nowhere}
 use Rattle.lines.specs.declared.Four.{Four}
 use Rattle.lines.specs.declared.Four.TheVariants.{Are, Missing}
-use Rattle.lines.specs.Lines.{Asked, opening, change, takeBack, putAgain, question, limits_numbers, map_letter, most_bytes, Asks, Reads, OneReading}
-use Rattle.lines.specs.Work.{stands, withFour, four_after, ending, two_of, withTwo, placed_of, with_placed, letter_line, in_line, out_line, kind_line, lengths_line, string_after, open_line, line_of}
+use Rattle.lines.specs.Lines.{Asked, opening, change, take_back, put_again, question, limits_numbers, map_letter, most_bytes, Asks, Reads, OneReading}
+use Rattle.lines.specs.Work.{stands, with_four, four_after, ending, two_of, with_two, placed_of, with_placed, letter_line, in_line, out_line, kind_line, lengths_line, string_after, open_line, line_of}
 use Rattle.lines.proofs.Standing.{by_test, stands_in, stands_drop, stands_yes, stands_no}
 use Rattle.lines.proofs.Numerals.{on}
 use Rattle.lines.proofs.Numbers.{no_digit, nothing_digit, Stand, none_stand, one_stands, Fours, going, four_sound, after_complete, four_complete}
@@ -63,21 +63,21 @@ module _ (xs : List ℕ) (short : length xs ≤ most_bytes) where
       )) (λ _. tt)))
 
   -- what goes on with them, of whatever it makes
-  with_two : {A : Type 0} (P : A → Type 0) (none : A) (then : ℕ → ℕ → A) → P none
-      → ((a b : ℕ) → a < 10000 → b < 10000 → ((lead : ℕ) → stands xs 0 lead ≡ true → xs ≡ lead ∷ fields (a ∷ b ∷ [])) → P (then a b)) → P (withTwo (two_of xs) none then)
-  with_two P none then p q = go (two_of xs) two_sound
+  with_two_lem : {A : Type 0} (P : A → Type 0) (none : A) (then : ℕ → ℕ → A) → P none
+      → ((a b : ℕ) → a < 10000 → b < 10000 → ((lead : ℕ) → stands xs 0 lead ≡ true → xs ≡ lead ∷ fields (a ∷ b ∷ [])) → P (then a b)) → P (with_two (two_of xs) none then)
+  with_two_lem P none then p q = go (two_of xs) two_sound
     where
-      go : (r : Two) → Twos r → P (withTwo r none then)
+      go : (r : Two) → Twos r → P (with_two r none then)
       go NotBoth h = p
       go (Both a b) h = q a b h.0 h.1 h.2
 
   kind_sound : stands xs 0 75 ≡ true → Sounds (kind_line xs)
   unfolding kind_line
-  kind_sound h = with_two Sounds _ _ tt (λ k d p q f. record { short = short; proper = (p, (q, tt)); form = f 75 h })
+  kind_sound h = with_two_lem Sounds _ _ tt (λ k d p q f. record { short = short; proper = (p, (q, tt)); form = f 75 h })
 
   lengths_sound : stands xs 0 77 ≡ true → Sounds (lengths_line xs)
   unfolding lengths_line
-  lengths_sound h = with_two Sounds _ _ tt (λ m g p q f. record { short = short; proper = (p, (q, tt)); form = f 77 h })
+  lengths_sound h = with_two_lem Sounds _ _ tt (λ m g p q f. record { short = short; proper = (p, (q, tt)); form = f 77 h })
 
   -- a place and a byte behind the line's letter
   abbrev Places : Placed → Type 0
@@ -86,7 +86,7 @@ module _ (xs : List ℕ) (short : length xs ≤ most_bytes) where
 
   placed_sound : Places (placed_of xs)
   unfolding placed_of
-  placed_sound = with_two Places _ _ tt (λ p b h _ f. by_test Places (leb b 255) _ _ (λ k. (h, leb-true b 255 k, f)) (λ _. tt))
+  placed_sound = with_two_lem Places _ _ tt (λ p b h _ f. by_test Places (leb b 255) _ _ (λ k. (h, leb-true b 255 k, f)) (λ _. tt))
 
   letter_sound : stands xs 0 76 ≡ true → Sounds (letter_line xs)
   unfolding letter_line
@@ -131,7 +131,7 @@ module _ (xs : List ℕ) (short : length xs ≤ most_bytes) where
   unfolding open_line
   open_sound h = go (four_after xs 1) (four_sound xs 1)
     where
-      go : (r : Four) → Fours xs 1 r → Sounds (withFour r Unknown (λ l i. string_after xs l i))
+      go : (r : Four) → Fours xs 1 r → Sounds (with_four r Unknown (λ l i. string_after xs l i))
       go Missing p = tt
       go (Are l i) p =
           by_test Sounds (stands xs i 32) _ _ (λ s.
@@ -264,8 +264,8 @@ module _ (xs : List ℕ) where
       let h : i + 2 < length xs = stands_in xs (i + 2) 32 (stands_yes xs (i + 2) 32 32 _ e₂ refl) in
       subst Understood (sym (known (Open l c (i + 3)) (subst (λ (z : List ℕ). Asks xs (opening l c z)) (sym e₃) q, omega arith) tt)) tt
   understood (change e) q = subst Understood (sym (known (Change e) q tt)) tt
-  understood takeBack q = subst Understood (sym (known TakeBack q tt)) tt
-  understood putAgain q = subst Understood (sym (known PutAgain q tt)) tt
+  understood take_back q = subst Understood (sym (known TakeBack q tt)) tt
+  understood put_again q = subst Understood (sym (known PutAgain q tt)) tt
   understood question q = subst Understood (sym (known Question q tt)) tt
 
   -- what `line_of` reads is what the line asks

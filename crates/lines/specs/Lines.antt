@@ -11,7 +11,7 @@ use Rattle.lines.specs.declared.Line.TheVariants.{Open, Change, TakeBack, PutAga
 pub data Asked : Type 0 where
   opening : Limits → Bool → List ℕ → Asked
   change : Edit → Asked
-  takeBack putAgain question : Asked
+  take_back put_again question : Asked
 
 -- Kind, m, g and d as they stand in an opening.
 abbrev pub limits_numbers : Limits → List ℕ
@@ -29,8 +29,8 @@ line_text (change (PutIn place byte)) = 73 ∷ fields (place ∷ byte ∷ [])
 line_text (change (TakeOut place)) = 88 ∷ fields (place ∷ [])
 line_text (change (Kind kind d)) = 75 ∷ fields (kind ∷ d ∷ [])
 line_text (change (Lengths m g)) = 77 ∷ fields (m ∷ g ∷ [])
-line_text takeBack = 66 ∷ []
-line_text putAgain = 65 ∷ []
+line_text take_back = 66 ∷ []
+line_text put_again = 65 ∷ []
 line_text question = 81 ∷ []
 
 -- Numbers are 1 to 4 digits: they are below 10,000.
@@ -46,8 +46,8 @@ Proper (change (PutIn place byte)) = (place < 10000) × (byte ≤ 255)
 Proper (change (TakeOut place)) = place < 10000
 Proper (change (Kind kind d)) = Short (kind ∷ d ∷ [])
 Proper (change (Lengths m g)) = Short (m ∷ g ∷ [])
-Proper takeBack = Unit {0}
-Proper putAgain = Unit {0}
+Proper take_back = Unit {0}
+Proper put_again = Unit {0}
 Proper question = Unit {0}
 
 -- A line has at most 1,040 bytes before its line end.
@@ -64,8 +64,8 @@ pub record Asks (xs : List ℕ) (a : Asked) : Type 0 where
 abbrev pub Reads : List ℕ → Line → Type 0
 Reads xs (Open l c from) = Asks xs (opening l c (drop from xs)) × (from ≤ length xs)
 Reads xs (Change e) = Asks xs (change e)
-Reads xs TakeBack = Asks xs takeBack
-Reads xs PutAgain = Asks xs putAgain
+Reads xs TakeBack = Asks xs take_back
+Reads xs PutAgain = Asks xs put_again
 Reads xs Question = Asks xs question
 Reads xs Unknown = (a : Asked) → Asks xs a → ⊥
 

@@ -39,9 +39,9 @@ abbrev pub with_number {ℓ} : {A : Type ℓ} → Number → A → (ℕ → ℕ 
 with_number Not none then = none
 with_number (Is v next) none then = then v next
 
-abbrev pub withFour {ℓ} : {A : Type ℓ} → Four → A → (Limits → ℕ → A) → A
-withFour Missing none then = none
-withFour (Are l next) none then = then l next
+abbrev pub with_four {ℓ} : {A : Type ℓ} → Four → A → (Limits → ℕ → A) → A
+with_four Missing none then = none
+with_four (Are l next) none then = then l next
 
 -- Four numbers, a space before each.
 unfoldable pub four_after : List ℕ → ℕ → Four
@@ -58,13 +58,13 @@ unfoldable pub two_of : List ℕ → Two
 two_of xs =
     with_number (number_after xs 1) NotBoth (λ a i. with_number (number_after xs i) NotBoth (λ b e. cond (eqb e (length xs)) (Both a b) NotBoth))
 
-abbrev pub withTwo {ℓ} : {A : Type ℓ} → Two → A → (ℕ → ℕ → A) → A
-withTwo NotBoth none then = none
-withTwo (Both a b) none then = then a b
+abbrev pub with_two {ℓ} : {A : Type ℓ} → Two → A → (ℕ → ℕ → A) → A
+with_two NotBoth none then = none
+with_two (Both a b) none then = then a b
 
 -- A place and a byte up to the line's end.
 unfoldable pub placed_of : List ℕ → Placed
-placed_of xs = withTwo (two_of xs) Nowhere (λ p b. cond (leb b 255) (At p b) Nowhere)
+placed_of xs = with_two (two_of xs) Nowhere (λ p b. cond (leb b 255) (At p b) Nowhere)
 
 abbrev pub with_placed : Placed → (ℕ → ℕ → Line) → Line
 with_placed Nowhere then = Unknown
@@ -80,10 +80,10 @@ unfoldable pub out_line : List ℕ → Line
 out_line xs = with_number (number_after xs 1) Unknown (λ p e. ending xs e (Change (TakeOut p)))
 
 unfoldable pub kind_line : List ℕ → Line
-kind_line xs = withTwo (two_of xs) Unknown (λ k d. Change (Kind k d))
+kind_line xs = with_two (two_of xs) Unknown (λ k d. Change (Kind k d))
 
 unfoldable pub lengths_line : List ℕ → Line
-lengths_line xs = withTwo (two_of xs) Unknown (λ m g. Change (Lengths m g))
+lengths_line xs = with_two (two_of xs) Unknown (λ m g. Change (Lengths m g))
 
 -- A space, the map's letter and a space; then the string.
 abbrev pub string_after : List ℕ → Limits → ℕ → Line
@@ -92,7 +92,7 @@ string_after xs l i =
     (cond (stands xs (i + 1) 73) (Open l false (i + 3)) (cond (stands xs (i + 1) 67) (Open l true (i + 3)) Unknown)) Unknown) Unknown
 
 unfoldable pub open_line : List ℕ → Line
-open_line xs = withFour (four_after xs 1) Unknown (λ l i. string_after xs l i)
+open_line xs = with_four (four_after xs 1) Unknown (λ l i. string_after xs l i)
 
 -- A whole line.
 unfoldable pub line_of : List ℕ → Line

@@ -66,7 +66,7 @@ fn hand_over(
 ) -> Answer
     requires some_sound { SomeSound s.now map.now (λ x. Holds x limits.d lens.now) }
     requires sound_limits { SoundLimits limits }
-    requires s_in_bounds { centres (length s.now) ≤ length lens.now }
+    requires lengths_fit { centres (length s.now) ≤ length lens.now }
     requires known { Known (board_by lens.now (length s.now) limits.kind limits.m) limits.g 0 table.now }
     ensures { EverySound s.now map.now (λ x. Holds x limits.d lens.now) (λ x. HandsOver x limits room.old room.new result) }
 {
@@ -109,8 +109,8 @@ fn tile_by(
 ) -> Answer
     requires some_sound { SomeSound s.now map.now (λ x. Holds x limits.d lens.now) }
     requires sound_limits { SoundLimits limits }
-    requires s_in_bounds { centres (length s.now) ≤ length lens.now }
-    requires g_in_bounds { entries (length s.now) limits.g ≤ length table.old }
+    requires lengths_fit { centres (length s.now) ≤ length lens.now }
+    requires table_fits { entries (length s.now) limits.g ≤ length table.old }
     ensures { EverySound s.now map.now (λ x. Holds x limits.d lens.now) (λ x. Table (board x limits) limits.g table.old table.new × HandsOver x limits room.old room.new result) }
 {
     let n = s.len();

@@ -22,7 +22,7 @@ fn reaches(
     v: u16,
     len: usize,
 ) -> bool
-    requires n_bound { (n ≤ 1000) × (g ≤ 15) × (2 * n ≤ length lens.now + 1) × (q ≤ g) × (1 ≤ len) × (i + len ≤ n) × (v < 65535) }
+    requires sizes { (n ≤ 1000) × (g ≤ 15) × (2 * n ≤ length lens.now + 1) × (q ≤ g) × (1 ≤ len) × (i + len ≤ n) × (v < 65535) }
     requires known { Known (board_by lens.now n kind m) g 0 t.now }
     ensures { Tells result (Reaches (board_by lens.now n kind m) i q v len) }
 {
@@ -44,7 +44,7 @@ fn longest_piece(
     q: usize,
     v: u16,
 ) -> usize
-    requires n_bound { (n ≤ 1000) × (g ≤ 15) × (2 * n ≤ length lens.now + 1) × (q ≤ g) × (1 ≤ m) × (i ≤ n) × (v < 65535) }
+    requires sizes { (n ≤ 1000) × (g ≤ 15) × (2 * n ≤ length lens.now + 1) × (q ≤ g) × (1 ≤ m) × (i ≤ n) × (v < 65535) }
     requires known { Known (board_by lens.now n kind m) g 0 t.now }
     ensures { TopReach (board_by lens.now n kind m) i q v result }
 {
@@ -71,7 +71,7 @@ fn stops(
     v: u16,
     len: usize,
 ) -> bool
-    requires n_bound { (n ≤ 1000) × (g ≤ 15) × (2 * n ≤ length lens.now + 1) × (q ≤ g) × (1 ≤ m) × (1 ≤ len) × (i + len ≤ n) }
+    requires sizes { (n ≤ 1000) × (g ≤ 15) × (2 * n ≤ length lens.now + 1) × (q ≤ g) × (1 ≤ m) × (1 ≤ len) × (i + len ≤ n) }
     requires known { Known (board_by lens.now n kind m) g 0 t.now }
     ensures { Tells result (Stops (board_by lens.now n kind m) i q v len) }
 {
@@ -102,9 +102,9 @@ fn gap_length(
     q: usize,
     v: u16,
 ) -> usize
-    requires n_bound { (n ≤ 1000) × (g ≤ 15) × (2 * n ≤ length lens.now + 1) × (q ≤ g) × (1 ≤ m) × (i < n) }
+    requires sizes { (n ≤ 1000) × (g ≤ 15) × (2 * n ≤ length lens.now + 1) × (q ≤ g) × (1 ≤ m) × (i < n) }
     requires known { Known (board_by lens.now n kind m) g 0 t.now }
-    requires by_index { (M : ℕ) × (1 ≤ M) × Stops (board_by lens.now n kind m) i q v M }
+    requires stopped { (M : ℕ) × (1 ≤ M) × Stops (board_by lens.now n kind m) i q v M }
     ensures { FirstStop (board_by lens.now n kind m) i q v result }
 {
     let mut len = 1;
@@ -137,7 +137,7 @@ fn next_part(
     i: usize,
     q: usize,
 ) -> Next
-    requires n_bound { (n ≤ 1000) × (g ≤ 15) × (2 * n ≤ length lens.now + 1) × (q ≤ g) × (1 ≤ m) × (i < n) }
+    requires sizes { (n ≤ 1000) × (g ≤ 15) × (2 * n ≤ length lens.now + 1) × (q ≤ g) × (1 ≤ m) × (i < n) }
     requires known { Known (board_by lens.now n kind m) g 0 t.now }
     requires tiled { Tiled (board_by lens.now n kind m) i q }
     ensures { Leads (board_by lens.now n kind m) i q result.code result.place result.left }
@@ -184,7 +184,7 @@ pub fn read_parts(
     t: &[u16],
     codes: &mut [u16],
 ) -> Tally
-    requires n_bound { (n ≤ 1000) × (g ≤ 15) × (2 * n ≤ length lens.now + 1) × (1 ≤ m) × (n ≤ length codes.old) }
+    requires sizes { (n ≤ 1000) × (g ≤ 15) × (2 * n ≤ length lens.now + 1) × (1 ≤ m) × (n ≤ length codes.old) }
     requires known { Known (board_by lens.now n kind m) g 0 t.now }
     requires tiled { Tiled (board_by lens.now n kind m) 0 g }
     ensures { ReadOut (board_by lens.now n kind m) g result.parts result.gaps codes.new × Past result.parts codes.old codes.new }

@@ -28,7 +28,7 @@ fn put_record(room: &mut [u8], at: usize, tag: u8, errors: u8, start: usize, len
 
 // Record number k is the part numbered code, from place i; where the next part begins.
 fn put_part(s: &[u8], map: &[u8], code: u16, i: usize, k: usize, room: &mut [u8]) -> usize
-    requires map_len { (length map.now ≡ 256) × (length s.now ≤ 1000) × (k ≤ 1000) × (record_size * k + record_size ≤ length room.old) }
+    requires sizes { (length map.now ≡ 256) × (length s.now ≤ 1000) × (k ≤ 1000) × (record_size * k + record_size ≤ length room.old) }
     requires fit { Fit (text_all s.now map.now) i (decode code) }
     ensures { (result ≡ i + length_of (decode code)) × (room.new ≡ take (record_size * k) room.old ++ record_of (text_all s.now map.now) i (decode code) ++ drop (record_size * k + record_size) room.old) }
 {
@@ -45,7 +45,7 @@ fn put_part(s: &[u8], map: &[u8], code: u16, i: usize, k: usize, room: &mut [u8]
 
 // The records of the first parts; later bytes stay.
 pub fn put_parts(s: &[u8], map: &[u8], codes: &[u16], parts: usize, room: &mut [u8])
-    requires map_len { (length map.now ≡ 256) × (length s.now ≤ 1000) × (parts ≤ 1000) × (parts ≤ length codes.now) × (record_size * parts ≤ length room.old) }
+    requires sizes { (length map.now ≡ 256) × (length s.now ≤ 1000) × (parts ≤ 1000) × (parts ≤ length codes.now) × (record_size * parts ≤ length room.old) }
     requires writable { Writable (text_all s.now map.now) 0 (decoded parts codes.now) }
     ensures { room.new ≡ records_from (text_all s.now map.now) 0 (decoded parts codes.now) ++ drop (record_size * parts) room.old }
 {

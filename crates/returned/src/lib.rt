@@ -17,7 +17,7 @@ use texts::flags::own_partner;
 fn all_right(s: &[u8], map: &[u8], limits: Limits, file: &[u8], alphabet: &[u8]) -> bool
     requires sound_text { SoundText (text s.now map.now alphabet.now) }
     requires sound_limits { SoundLimits limits }
-    requires file_len { length file.now % 6 ≡ 0 }
+    requires whole_records { length file.now % 6 ≡ 0 }
     ensures { Judged result (text s.now map.now alphabet.now) limits file.now }
 {
     let own = own_partner(map, alphabet);

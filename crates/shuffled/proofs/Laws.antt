@@ -13,7 +13,7 @@ use lib.ListN.{length, get_or-eq_default}
 use Rattle.terms.specs.Refusals.{first_fault, OneOf}
 use Rattle.terms.proofs.Order.{le_or_lt}
 use Rattle.terms.proofs.Passed.{passed, not_off}
-use Rattle.terms.proofs.Ranges.{entries-unique}
+use Rattle.terms.proofs.Ranges.{entries_unique}
 use Rattle.terms.proofs.Refusals.{fault_listed}
 use Rattle.spans.specs.Palindromes.{letter}
 use Rattle.shuffled.specs.Shuffled.{LongestShuffled, Longests, capitals, shuffled_faults, ShuffledReply}
@@ -36,7 +36,7 @@ numbers_listed s lent = fault_listed (shuffled_faults s lent)
 module _ (s before : List ℕ) where
   one_slice : (a a' : List ℕ) → Longests s before a → Longests s before a' → a ≡ a'
   one_slice a a' p q =
-      entries-unique (LongestShuffled s) (λ k v w h g. le_antisymm (g.longest v h.is) (h.longest w g.is))
+      entries_unique (LongestShuffled s) (λ k v w h g. le_antisymm (g.longest v h.is) (h.longest w g.is))
       (length s) before a a' p.long q.long p.filled q.filled p.stay q.stay
 
   one_reply : (a a' : List ℕ) (r r' : ℕ) → ShuffledReply s before a r → ShuffledReply s before a' r' → (a ≡ a') × (r ≡ r')

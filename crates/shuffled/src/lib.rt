@@ -27,7 +27,7 @@ fn at_most_one(w: u32) -> bool
 
 // The longest length from a, whose letters up to the string's end have the word w: letters are taken out from the end on, until the rest passes.
 fn longest_from(s: &[u8], a: usize, w: u32) -> u16
-    requires s_len_bound { (length s.now ≤ 1000) × (a < length s.now) × (capitals s.now ≡ true) }
+    requires sizes { (length s.now ≤ 1000) × (a < length s.now) × (capitals s.now ≡ true) }
     requires parity_word { ParityWord s.now a (length s.now - a) w }
     ensures { LongestShuffled s.now a result }
 {

@@ -8,7 +8,7 @@ use Rattle.terms.specs.Refusals.{first_fault, OneOf}
 use Rattle.terms.specs.Maps.{map_faults}
 use Rattle.terms.specs.Alphabets.{alphabet_faults}
 use Rattle.terms.specs.Texts.{Text, size, string_faults, text_faults}
-use Rattle.terms.proofs.Ranges.{entries-unique}
+use Rattle.terms.proofs.Ranges.{entries_unique}
 use Rattle.terms.proofs.Refusals.{fault_listed}
 use Rattle.spans.specs.Palindromes.{centres, MaximalLength}
 use Rattle.spans.specs.Centres.{Lengths, centres_faults, CentresReply, CentresLaws}
@@ -16,7 +16,7 @@ use Rattle.spans.specs.declared.CentreCount.{CentreCount}
 use Rattle.spans.proofs.Walking.{longest_unique}
 
 pub lengths_unique : (x : Text) (d : ℕ) (b a a' : List ℕ) → Lengths x d b a → Lengths x d b a' → a ≡ a'
-lengths_unique x d b a a' p q = entries-unique (MaximalLength x d) (λ k v w. longest_unique) (centres (size x)) b a a' p.long q.long p.filled q.filled p.stay q.stay
+lengths_unique x d b a a' p q = entries_unique (MaximalLength x d) (λ k v w. longest_unique) (centres (size x)) b a a' p.long q.long p.filled q.filled p.stay q.stay
 
 centres_listed : (x : Text) (d lent : ℕ) → OneOf (first_fault (centres_faults x d lent)) (0 ∷ 1 ∷ 2 ∷ 3 ∷ 18 ∷ 19 ∷ 5 ∷ 11 ∷ [])
 unfolding centres_faults text_faults string_faults map_faults alphabet_faults

@@ -26,7 +26,7 @@ pub fn centre_count(n: usize) -> usize
 // The maximal lengths of all centres, for a string and a map that meet no refusal; later entries stay.
 pub fn fill_lengths(s: &[u8], map: &[u8], d: usize, out: &mut [u16], alphabet: &[u8])
     requires sound_text { SoundText (text s.now map.now alphabet.now) }
-    requires d_bound { (d ≤ 15) × (centres (length s.now) ≤ length out.old) }
+    requires sizes { (d ≤ 15) × (centres (length s.now) ≤ length out.old) }
     ensures { Lengths (text s.now map.now alphabet.now) d out.old out.new }
 {
     let own = own_partner(map, alphabet);

@@ -87,7 +87,7 @@ module _ (x : Text) (d c : ℕ) where
         go false h = absurd (omega arith)
 
   -- the longest span of the centre inside the string
-  module _ (n : Bars x c → ⊥) (f : Ends x d c) (in-range : c < centres (size x)) where
+  module _ (n : Bars x c → ⊥) (f : Ends x d c) (in_range : c < centres (size x)) where
     pub end_length : MaximalLength x d c (c + 1 - (edge (size x) c + edge (size x) c))
     end_length =
         longest_of x d c (edge (size x) c) (omega arith) (omega arith)

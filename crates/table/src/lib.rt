@@ -53,10 +53,10 @@ fn look(
     next: &mut [u16],
     row: &mut [u16],
 ) -> usize
-    requires n_bound { (n ≤ 1000) × (g ≤ 15) × (2 * n ≤ length lens.now + 1) × (1 ≤ m) × (i < n) }
+    requires sizes { (n ≤ 1000) × (g ≤ 15) × (2 * n ≤ length lens.now + 1) × (1 ≤ m) × (i < n) }
     requires known { Known (board_by lens.now n kind m) g (i + 1) t.now }
     requires along { Along lens.now n kind m i last c × Next lens.now n kind m i next.old }
-    requires c_bound { (c < n + i) × PieceRowUnder (board_by lens.now n kind m) g i (c + 1 - (i + i)) row.old }
+    requires row_so_far { (c < n + i) × PieceRowUnder (board_by lens.now n kind m) g i (c + 1 - (i + i)) row.old }
     ensures { Looked lens.now n kind m i c result next.new × PieceRowUnder (board_by lens.now n kind m) g i (c + 1 - (i + i) + 1) row.new }
 {
     let len = c + 1 - (i + i);
@@ -81,7 +81,7 @@ fn piece_row(
     next: &mut [u16],
     row: &mut [u16],
 )
-    requires n_bound { (n ≤ 1000) × (g ≤ 15) × (2 * n ≤ length lens.now + 1) × (i < n) × (1 ≤ m) × (g < length row.old) }
+    requires sizes { (n ≤ 1000) × (g ≤ 15) × (2 * n ≤ length lens.now + 1) × (i < n) × (1 ≤ m) × (g < length row.old) }
     requires known { Known (board_by lens.now n kind m) g (i + 1) t.now }
     requires first { First lens.now n kind m i first × Next lens.now n kind m i next.old }
     ensures { PieceRow (board_by lens.now n kind m) g i row.new × Next lens.now n kind m i next.new }

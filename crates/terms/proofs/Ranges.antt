@@ -42,10 +42,10 @@ module _ (P : ℕ → ℕ → Type 0) where
     fill_down z o = grown (lo - 1) (lo - 1) hi (omega arith) (omega arith) (omega arith) (omega arith) (λ k j h n. (omega arith, h))
 
   -- One value for each entry below n, and later entries as they were: one slice.
-  pub entries-unique :
+  pub entries_unique :
       ((k v v' : ℕ) → P k v → P k v' → v ≡ v') → (n : ℕ) (b a a' : List ℕ) → length a ≡ length b → length a' ≡ length b
       → ((k : ℕ) → k < n → P k (get_or a k 0)) → ((k : ℕ) → k < n → P k (get_or a' k 0))
       → ((k : ℕ) → n ≤ k → get_or a k 0 ≡ get_or b k 0) → ((k : ℕ) → n ≤ k → get_or a' k 0 ≡ get_or b k 0) → a ≡ a'
-  entries-unique only n b a a' l l' p p' s s' =
+  entries_unique only n b a a' l l' p p' s s' =
       ext_get_or 0 a a' (l ∙ sym l')
       (λ k h. ⊎_elim (λ (w : n ≤ k). s k w ∙ sym (s' k w)) (λ (w : k < n). only k _ _ (p k w) (p' k w)) (le_or_lt n k))

@@ -6,7 +6,7 @@ use Prim.Native.Nat.{ℕ, ◌+◌, ◌*◌, ◌/◌, ◌%◌, ◌≤◌, ◌<◌
 use native.Mathlib.Omega.{arith}
 use native.Mathlib.Nat.{le_antisymm, div-add-mod', mod-lt, div-lt_iff_lt-mul}
 use lib.ListN.{get_or}
-use Rattle.terms.proofs.Ranges.{entries-unique}
+use Rattle.terms.proofs.Ranges.{entries_unique}
 use Rattle.tilings.specs.Tilings.{Board, Part, piece, gap, total, Sooner, Before, Given, Entry, entries, Table}
 
 sooner_asym : (p q : Part) → Sooner p q → Sooner q p → ⊥
@@ -49,7 +49,7 @@ module _ (B : Board) (i q : ℕ) where
 -- Every index of the table is one of its entries.
 pub table_unique : (B : Board) (g : ℕ) (t a b : List ℕ) → Table B g t a → Table B g t b → a ≡ b
 table_unique B g t a b p q =
-    entries-unique (λ k. Entry B (k / (g + 1)) (k % (g + 1))) (λ k. entry_unique B (k / (g + 1)) (k % (g + 1)))
+    entries_unique (λ k. Entry B (k / (g + 1)) (k % (g + 1))) (λ k. entry_unique B (k / (g + 1)) (k % (g + 1)))
     (entries B.size g) t a b p.long q.long (at a p) (at b q) p.stay q.stay
   where
     at : (c : List ℕ) → Table B g t c → (k : ℕ) → k < entries B.size g → Entry B (k / (g + 1)) (k % (g + 1)) (get_or c k 0)

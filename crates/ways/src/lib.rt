@@ -10,7 +10,7 @@ pub const NOWHERE: u16 = 2000;
 
 // For kind 2 the centre c is put before the first of the start of its maximal palindrome, unless that is no piece.
 fn enter(lens: &[u16], n: usize, m: usize, c: usize, first: &mut [u16], next: &mut [u16])
-    requires n_bound { (n ≤ 1000) × (2 * n ≤ length lens.now + 1) × (1 ≤ m) × (c + 1 < 2 * n) }
+    requires sizes { (n ≤ 1000) × (2 * n ≤ length lens.now + 1) × (1 ≤ m) × (c + 1 < 2 * n) }
     requires entered { Entered lens.now n m (c + 1) first.old next.old }
     ensures { Entered lens.now n m c first.new next.new }
 {
@@ -31,7 +31,7 @@ fn enter(lens: &[u16], n: usize, m: usize, c: usize, first: &mut [u16], next: &m
 
 // Kind 2: each start's own centres.
 fn lay_own(lens: &[u16], n: usize, m: usize, first: &mut [u16], next: &mut [u16])
-    requires n_bound { (n ≤ 1000) × (2 * n ≤ length lens.now + 1) × (1 ≤ m) × (n ≤ length first.old) × (2 * n ≤ length next.old + 1) }
+    requires sizes { (n ≤ 1000) × (2 * n ≤ length lens.now + 1) × (1 ≤ m) × (n ≤ length first.old) × (2 * n ≤ length next.old + 1) }
     requires nowhere { Nowhere first.old × Nowhere next.old }
     ensures { Laid lens.now n 2 m first.new next.new }
 {
@@ -56,7 +56,7 @@ fn lay_all(n: usize, next: &mut [u16])
 
 // The ways of all starts.
 pub fn lay(lens: &[u16], n: usize, kind: usize, m: usize, first: &mut [u16], next: &mut [u16])
-    requires n_bound { (n ≤ 1000) × (2 * n ≤ length lens.now + 1) × (1 ≤ m) × (n ≤ length first.old) × (2 * n ≤ length next.old + 1) }
+    requires sizes { (n ≤ 1000) × (2 * n ≤ length lens.now + 1) × (1 ≤ m) × (n ≤ length first.old) × (2 * n ≤ length next.old + 1) }
     requires nowhere { Nowhere first.old × Nowhere next.old }
     ensures { Laid lens.now n kind m first.new next.new }
 {

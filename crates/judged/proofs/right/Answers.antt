@@ -6,7 +6,7 @@ use Rattle.judged.proofs.Testing.{tells_piece, no_tag, gap_errors, gap_empty, te
 use Rattle.judged.proofs.right.Goals as goal
 
 pub right_piece-requires : goal.right_piece-requires
-right_piece-requires c = let a = c.args in let h = read_small a.file.now a.at (λ k. omega (arith, c.type_inv.file k)) _ c.record_at-found.ensures in record { sound_string = c.requires.sound_string; sound_limits = c.requires.sound_limits; start_bound = (h.0, h.1) }
+right_piece-requires c = let a = c.args in let h = read_small a.file.now a.at (λ k. omega (arith, c.type_inv.file k)) _ c.record_at-found.ensures in record { sound_string = c.requires.sound_string; sound_limits = c.requires.sound_limits; sizes = (h.0, h.1) }
 
 pub returns-then-tag-eq-PIECE : goal.returns-then-tag-eq-PIECE
 returns-then-tag-eq-PIECE c = let a = c.args in λ z sound own. tells_piece (text a.s.now a.map.now z) a.limits a.file.now a.at (omega arith) (λ k. omega (arith, c.type_inv.file k)) _ c.record_at-found.ensures c.if-tag-eq-PIECE.true _ (c.right_piece.ensures z sound own)

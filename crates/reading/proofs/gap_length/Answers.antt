@@ -11,7 +11,7 @@ pub loop-len-init : goal.loop-len-init
 loop-len-init c = (omega arith, λ M h k s. omega arith)
 
 pub stops-requires : goal.stops-requires
-stops-requires c = record { n_bound = omega arith; known = c.requires.known }
+stops-requires c = record { sizes = omega arith; known = c.requires.known }
 
 pub returns-then-stops : goal.returns-then-stops
 returns-then-stops c = record { some = omega arith; is = told_yes c.stops.result _ c.stops.ensures c.if-stops.true; first = λ M h k. c.loop-len.invariant.1 M k h }
@@ -20,4 +20,4 @@ pub loop-len-preserved : goal.loop-len-preserved
 loop-len-preserved c = (omega arith, below_more (λ M. 1 ≤ M → Stops _ _ _ _ M → ⊥) _ c.loop-len.invariant.1 (λ h. told_no c.stops.result _ c.stops.ensures c.if-stops.false))
 
 pub returns : goal.returns
-returns c = let w = c.requires.by_index in let k = stop_inside w.2 in absurd (c.loop-len.invariant.1 w.0 (omega arith) w.1 w.2)
+returns c = let w = c.requires.stopped in let k = stop_inside w.2 in absurd (c.loop-len.invariant.1 w.0 (omega arith) w.1 w.2)

@@ -10,7 +10,7 @@ pub loop-len-init : goal.loop-len-init
 loop-len-init c = (omega arith, λ M r. omega (arith, r.0.inside))
 
 pub reaches-requires : goal.reaches-requires
-reaches-requires c = record { n_bound = omega arith; known = c.requires.known }
+reaches-requires c = record { sizes = omega arith; known = c.requires.known }
 
 pub returns-then-reaches : goal.returns-then-reaches
 returns-then-reaches c = record { is = inr (told_yes c.reaches.result _ c.reaches.ensures c.if-reaches.true); top = c.loop-len.invariant.1 }

@@ -21,7 +21,7 @@ unfolding Tells
 returns-then-j-n c = stop_end _ _ _ _ _ (known_entry c.requires.known c.at-w.ensures (omega arith) (omega arith)) (omega arith) (omega arith) c.if-j-n.true
 
 pub longest_piece-requires : goal.longest_piece-requires
-longest_piece-requires c = record { n_bound = omega arith; known = c.requires.known }
+longest_piece-requires c = record { sizes = omega arith; known = c.requires.known }
 
 pub returns : goal.returns
 returns c = stop_piece _ _ _ _ _ (known_entry c.requires.known c.at-w.ensures (omega arith) (omega arith)) (omega arith) (omega arith) c.if-j-n.false (λ M p. p.some) c.longest_piece.ensures

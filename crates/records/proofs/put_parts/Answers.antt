@@ -7,7 +7,7 @@ pub loop-k-init : goal.loop-k-init
 loop-k-init c = putting_start _ _ _ _ c.requires.writable
 
 pub put_part-i-requires : goal.put_part-i-requires
-put_part-i-requires c = record { map_len = omega arith; fit = putting_fit _ _ _ _ _ _ _ c.loop-k.invariant (omega arith) (omega arith) }
+put_part-i-requires c = record { sizes = omega arith; fit = putting_fit _ _ _ _ _ _ _ c.loop-k.invariant (omega arith) (omega arith) }
 
 pub loop-k-preserved : goal.loop-k-preserved
 loop-k-preserved c = putting_next _ _ _ _ _ _ _ c.loop-k.invariant (omega arith) (omega arith) _ _ c.put_part-i.auto.room c.put_part-i.ensures

@@ -12,7 +12,7 @@ pub returns-then-file-ne0 : goal.returns-then-file-ne0
 returns-then-file-ne0 c = reply_half _ _ _ _ c.opening_refusal-number.ensures c.if-number-ne0.false c.if-file-ne0.true
 
 pub all_right-requires : goal.all_right-requires
-all_right-requires c = let a = c.args in let h = opening_sound (text a.s.now a.map.now a.alphabet.now) a.limits a.file.now _ c.opening_refusal-number.ensures c.if-number-ne0.false in record { sound_text = h.0; sound_limits = h.1; file_len = c.if-file-ne0.false }
+all_right-requires c = let a = c.args in let h = opening_sound (text a.s.now a.map.now a.alphabet.now) a.limits a.file.now _ c.opening_refusal-number.ensures c.if-number-ne0.false in record { sound_text = h.0; sound_limits = h.1; whole_records = c.if-file-ne0.false }
 
 pub returns-then-not-all_right : goal.returns-then-not-all_right
 returns-then-not-all_right c = reply_wrong _ _ _ _ c.opening_refusal-number.ensures c.if-number-ne0.false c.if-file-ne0.false (judged_no _ _ _ _ c.all_right.ensures (c.if-not-all_right.true))

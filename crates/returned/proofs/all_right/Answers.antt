@@ -14,21 +14,21 @@ pub loop-at-init : goal.loop-at-init
 loop-at-init c = judge_start _ _ _
 
 pub right-requires : goal.right-requires
-right-requires c = record { sound_string = sound_letters (text _ _ _) c.requires.sound_text; sound_limits = c.requires.sound_limits; at_in_bounds = judge_whole _ _ _ _ c.loop-at.invariant c.requires.file_len (omega arith) }
+right-requires c = record { sound_string = sound_letters (text _ _ _) c.requires.sound_text; sound_limits = c.requires.sound_limits; at_in_bounds = judge_whole _ _ _ _ c.loop-at.invariant c.requires.whole_records (omega arith) }
 
 pub returns-then-not-right : goal.returns-then-not-right
 unfolding Judged
-returns-then-not-right c = let a = c.args in judge_wrong (text a.s.now a.map.now a.alphabet.now) a.limits a.file.now c.loop-at.at c.loop-at.invariant c.requires.file_len (omega arith) (told_no _ _ (c.right.ensures _ c.requires.sound_text c.own_partner-own.ensures) (c.if-not-right.true))
+returns-then-not-right c = let a = c.args in judge_wrong (text a.s.now a.map.now a.alphabet.now) a.limits a.file.now c.loop-at.at c.loop-at.invariant c.requires.whole_records (omega arith) (told_no _ _ (c.right.ensures _ c.requires.sound_text c.own_partner-own.ensures) (c.if-not-right.true))
 
 pub overflow_add-at : goal.overflow_add-at
-overflow_add-at c = let h = judge_whole _ _ _ _ c.loop-at.invariant c.requires.file_len (omega arith) in omega arith
+overflow_add-at c = let h = judge_whole _ _ _ _ c.loop-at.invariant c.requires.whole_records (omega arith) in omega arith
 
 pub loop-at-smaller : goal.loop-at-smaller
-loop-at-smaller c = let h = judge_whole _ _ _ _ c.loop-at.invariant c.requires.file_len (omega arith) in omega arith
+loop-at-smaller c = let h = judge_whole _ _ _ _ c.loop-at.invariant c.requires.whole_records (omega arith) in omega arith
 
 pub loop-at-preserved : goal.loop-at-preserved
-loop-at-preserved c = let a = c.args in judge_next (text a.s.now a.map.now a.alphabet.now) a.limits a.file.now c.loop-at.at c.loop-at.invariant c.requires.file_len (omega arith) (told_yes _ _ (c.right.ensures _ c.requires.sound_text c.own_partner-own.ensures) (c.if-not-right.false))
+loop-at-preserved c = let a = c.args in judge_next (text a.s.now a.map.now a.alphabet.now) a.limits a.file.now c.loop-at.at c.loop-at.invariant c.requires.whole_records (omega arith) (told_yes _ _ (c.right.ensures _ c.requires.sound_text c.own_partner-own.ensures) (c.if-not-right.false))
 
 pub returns : goal.returns
 unfolding Judged
-returns c = judge_end _ _ _ _ c.loop-at.invariant c.requires.file_len (omega arith)
+returns c = judge_end _ _ _ _ c.loop-at.invariant c.requires.whole_records (omega arith)

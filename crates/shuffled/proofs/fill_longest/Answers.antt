@@ -13,7 +13,7 @@ pub turned-w-requires : goal.turned-w-requires
 turned-w-requires c = capital_at _ c.requires.2 _ (omega arith)
 
 pub longest_from-requires : goal.longest_from-requires
-longest_from-requires c = let s = c.args.s.now in let all = c.requires.2 in let l = c.loop-a in record { s_len_bound = (omega arith, omega arith, all); parity_word = rw c.turned-w.ensures (word_before s l.a (length s) l.w (omega arith) l.invariant.0 (capital_at s all (l.a - 1) (omega arith)).0 l.invariant.1) }
+longest_from-requires c = let s = c.args.s.now in let all = c.requires.2 in let l = c.loop-a in record { sizes = (omega arith, omega arith, all); parity_word = rw c.turned-w.ensures (word_before s l.a (length s) l.w (omega arith) l.invariant.0 (capital_at s all (l.a - 1) (omega arith)).0 l.invariant.1) }
 
 pub bounds-out-a : goal.bounds-out-a
 bounds-out-a c = omega (arith, c.loop-a.invariant.2.long)

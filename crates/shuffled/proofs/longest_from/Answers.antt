@@ -14,12 +14,12 @@ pub at_most_one-requires : goal.at_most_one-requires
 at_most_one-requires c = tt
 
 pub turned-rest-requires : goal.turned-rest-requires
-turned-rest-requires c = capital_at _ c.requires.s_len_bound.2 _ (omega arith)
+turned-rest-requires c = capital_at _ c.requires.sizes.2 _ (omega arith)
 
 pub loop-len-preserved : goal.loop-len-preserved
 loop-len-preserved c = let a = c.args in
     let l = c.loop-len in
-    let low = (capital_at a.s.now c.requires.s_len_bound.2 (a.a + (l.len - 1)) (omega arith)).0 in
+    let low = (capital_at a.s.now c.requires.sizes.2 (a.a + (l.len - 1)) (omega arith)).0 in
     let fails = sym c.at_most_one.ensures ∙ c.loop-len-test.true in
     let most = shorter a.s.now a.a l.len l.rest l.invariant.2 fails l.invariant.3 in
     (most 1 (one_letter a.s.now a.a (omega arith)), omega arith, rw c.turned-rest.ensures (word_without a.s.now a.a l.len l.rest (omega arith) low l.invariant.2), most)
@@ -28,6 +28,6 @@ pub returns : goal.returns
 returns c = let a = c.args in
     let l = c.loop-len in
     record {
-      is = passes a.s.now a.a l.len l.rest l.invariant.2 c.requires.s_len_bound.2 (omega arith) (omega arith) (sym c.at_most_one.ensures ∙ c.loop-len-test.false);
+      is = passes a.s.now a.a l.len l.rest l.invariant.2 c.requires.sizes.2 (omega arith) (omega arith) (sym c.at_most_one.ensures ∙ c.loop-len-test.false);
       longest = l.invariant.3;
     }

@@ -9,13 +9,13 @@ use native.Mathlib.Omega.{arith}
 use Rattle.table.proofs.fill_table.Goals as goal
 
 pub lay-requires : goal.lay-requires
-lay-requires c = record { n_bound = omega arith; nowhere = (λ k h. get_or-replicate 1000 k 2000 0 (omega arith), λ k h. get_or-replicate 1999 k 2000 0 (omega arith)) }
+lay-requires c = record { sizes = omega arith; nowhere = (λ k h. get_or-replicate 1000 k 2000 0 (omega arith), λ k h. get_or-replicate 1999 k 2000 0 (omega arith)) }
 
 pub loop-i-init : goal.loop-i-init
 loop-i-init c = (omega arith, tabled_start _ c.store_row.ensures (omega arith) (omega arith) (omega arith) (λ q h. get_or-replicate 16 q 0 0 (omega arith)) (λ q h. get_or-replicate 16 q 65535 0 (omega arith)), c.lay.ensures.steps)
 
 pub piece_row-requires : goal.piece_row-requires
-piece_row-requires c = record { n_bound = omega arith; known = tabled_known c.loop-i.invariant.1 _ (omega arith); first = (first_is _ _ _ _ _ c.lay.ensures (omega arith) (omega arith) c.first_of-begin.ensures.0 c.first_of-begin.ensures.1, next_fewer (omega arith) c.loop-i.invariant.2) }
+piece_row-requires c = record { sizes = omega arith; known = tabled_known c.loop-i.invariant.1 _ (omega arith); first = (first_is _ _ _ _ _ c.lay.ensures (omega arith) (omega arith) c.first_of-begin.ensures.0 c.first_of-begin.ensures.1, next_fewer (omega arith) c.loop-i.invariant.2) }
 
 pub overflow_mul-i : goal.overflow_mul-i
 overflow_mul-i c = omega (arith, index_small c.args.g c.loop-i.i (omega arith) (omega arith))

@@ -18,14 +18,14 @@ pub overflow_mul-i : goal.overflow_mul-i
 overflow_mul-i c = let a = c.args in omega (arith, index_small a.g (a.i + (a.c + 1 - (a.i + a.i))) (omega (arith, c.requires.along.0.low (omega arith))) (omega arith))
 
 pub lower-requires : goal.lower-requires
-lower-requires c = let a = c.args in let l = c.requires.along.0.low (omega arith) in (omega arith, c.requires.c_bound.1.wide, omega (arith, index_small a.g (a.i + (a.c + 1 - (a.i + a.i))) (omega arith) (omega arith)), known_lt c.requires.known _ _ (omega arith) (omega arith))
+lower-requires c = let a = c.args in let l = c.requires.along.0.low (omega arith) in (omega arith, c.requires.row_so_far.1.wide, omega (arith, index_small a.g (a.i + (a.c + 1 - (a.i + a.i))) (omega arith) (omega arith)), known_lt c.requires.known _ _ (omega arith) (omega arith))
 
 pub returns-then-is_piece : goal.returns-then-is_piece
 returns-then-is_piece c = let a = c.args in
     let pre = c.requires in
     let l = pre.along.0.low (omega arith) in
     let piece : PieceBy a.lens.now a.n a.kind a.m a.i (a.c + 1 - (a.i + a.i)) = told_yes c.is_piece.result (PieceBy a.lens.now a.n a.kind a.m a.i (a.c + 1 - (a.i + a.i))) c.is_piece.ensures c.if-is_piece.true in
-    (looked_kept (omega arith) pre.along.1, row_more pre.c_bound.1 pre.known (omega arith) (omega arith) piece c.lower.ensures)
+    (looked_kept (omega arith) pre.along.1, row_more pre.row_so_far.1 pre.known (omega arith) (omega arith) piece c.lower.ensures)
 
 pub returns : goal.returns
-returns c = let no = told_no c.is_piece.result _ c.is_piece.ensures c.if-is_piece.false in (looked_dropped (omega arith) (omega arith) (omega arith) c.requires.along.0 c.requires.along.1 no, row_skip c.requires.c_bound.1 no)
+returns c = let no = told_no c.is_piece.result _ c.is_piece.ensures c.if-is_piece.false in (looked_dropped (omega arith) (omega arith) (omega arith) c.requires.along.0 c.requires.along.1 no, row_skip c.requires.row_so_far.1 no)

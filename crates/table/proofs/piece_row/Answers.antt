@@ -8,7 +8,7 @@ pub loop-c-init : goal.loop-c-init
 loop-c-init c = (omega arith, (along_first c.requires.first.0, c.requires.first.1), row_none c.clear.ensures (omega arith) _ _ _ (λ L p. omega (arith, c.requires.first.0.skips L p, p.some)))
 
 pub look-last-requires : goal.look-last-requires
-look-last-requires c = record { n_bound = omega arith; known = c.requires.known; along = (c.loop-c.invariant.1.0, c.loop-c.invariant.1.1); c_bound = (omega arith, c.loop-c.invariant.2) }
+look-last-requires c = record { sizes = omega arith; known = c.requires.known; along = (c.loop-c.invariant.1.0, c.loop-c.invariant.1.1); row_so_far = (omega arith, c.loop-c.invariant.2) }
 
 pub overflow_cast-c : goal.overflow_cast-c
 overflow_cast-c c = omega (arith, c.type_inv.next c.look-last.result)

@@ -8,7 +8,7 @@ pub loop-c-init : goal.loop-c-init
 loop-c-init c = (omega arith, enter_start _ _ _ (omega arith) (omega arith) (omega arith) c.requires.nowhere.0 c.requires.nowhere.1)
 
 pub enter-requires : goal.enter-requires
-enter-requires c = record { n_bound = omega arith; entered = entered_from (omega arith) c.loop-c.invariant.1 }
+enter-requires c = record { sizes = omega arith; entered = entered_from (omega arith) c.loop-c.invariant.1 }
 
 pub loop-c-preserved : goal.loop-c-preserved
 loop-c-preserved c = (omega arith, entered_from (omega arith) c.enter.ensures)
