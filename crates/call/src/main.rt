@@ -13,7 +13,7 @@ use std::io::Read;
 const LINE: usize = 1041;
 
 // After a step: the desk, how many bytes are kept of the line, where the piece is read on, and how many bytes of a reply are to be written.
-#[derive(Drop)]
+#[derive(Clone, Copy)]
 struct Progress {
     desk: Desk,
     at: usize,
@@ -22,7 +22,7 @@ struct Progress {
 }
 
 // Between two pieces: the desk, and how many bytes are kept of the line.
-#[derive(Drop)]
+#[derive(Clone, Copy)]
 struct Between {
     desk: Desk,
     at: usize,

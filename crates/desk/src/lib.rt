@@ -17,14 +17,14 @@ use terms::limits::Limits;
 use terms::{alphabets, maps};
 
 // A sheet, if one is open.
-#[derive(Drop)]
+#[derive(Clone, Copy)]
 pub struct Desk {
     pub opened: bool,
     pub sheet: Sheet,
 }
 
 // The desk after a line, and how many bytes of its reply stand at the start of the room.
-#[derive(Drop)]
+#[derive(Clone, Copy)]
 pub struct Turn {
     pub desk: Desk,
     pub written: usize,
