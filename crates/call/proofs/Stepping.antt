@@ -9,7 +9,7 @@ use borrow.Author.Tests.{ltb-true, ltb-false}
 use lib.Dec.{T}
 use lib.ListN.{length, take, drop, length-drop, drop_of_length-le}
 use lib.Seq.{take_all, take-nil, length-take-le}
-use Rattle.lines.specs.declared.Line.TheVariants.{Unknown}
+use Rattle.std.specs.Prelude.{Option, None}
 use Rattle.lines.specs.declared.Line.{Line}
 use Rattle.lines.proofs.Reading.{too_long, one_reading}
 use Rattle.feed.specs.Lines.{whole_lines, last_line, Kept}
@@ -36,12 +36,12 @@ whole_line d room at line long k {table} {table'} {work} {work'} {out} {out'} {r
       | yes h ↦ subst (λ (z : List ℕ). DeskReply d z table table' work work' out out' r) (k.bytes ∙ take_all (length room) line (omega arith)) p
       | no h ↦
           let l : length (take at room) ≡ at = length-take-le at room (omega (arith, k.many)) in
-          let u : p.line ≡ Unknown = one_reading (take at room) p.line Unknown p.reads (too_long (take at room) (omega (arith, k.many))) in
+          let u : p.line ≡ None = one_reading (take at room) p.line None p.reads (too_long (take at room) (omega (arith, k.many))) in
           record {
-            line = Unknown;
+            line = None;
             reads = too_long line (omega arith);
             text = p.text;
-            does = subst (λ (z : Line). Does d (take at room) z table table' work work' (r.desk, p.text)) u p.does;
+            does = subst (λ (z : Option Line). Does d (take at room) z table table' work work' (r.desk, p.text)) u p.does;
             puts = p.puts;
           }
     ]

@@ -1,7 +1,7 @@
 // The call program: lines from standard input, each answered on standard output before more input is waited for.
 #![tactic(auto)]
 
-ghost use Rattle.std.specs.Prelude.{◌≡◌, ◌≤◌, ◌<◌, length};
+ghost use Rattle.std.specs.Prelude.{◌≤◌, ◌<◌, length};
 ghost use Rattle.call.specs.Steps.{Reading, Finishing};
 ghost use Rattle.call.specs.Work.{Stepping};
 
@@ -11,6 +11,22 @@ use std::io::Read;
 
 // The most bytes kept of a line: one more than a line may have, so that a line too long is seen to be so.
 const LINE: usize = 1041;
+
+// Enough for every question and every reply, as the crate `rooms` shows.
+const TABLE: usize = 16016;
+
+const RECORDS: usize = 6000;
+
+const REPLY: usize = 65536;
+
+// What a line is answered with: a question's table and records, and the reply.
+#[derive(Drop)]
+struct Rooms {
+    table: [u16; TABLE],
+    room: [u8; RECORDS],
+    out: [u8; REPLY],
+    ghost enough: { (16016 ≤ length table) × (6000 ≤ length room) × (65536 ≤ length out) },
+}
 
 // After a step: the desk, how many bytes are kept of the line, where the piece is read on, and how many bytes of a reply are to be written.
 #[derive(Clone, Copy)]
@@ -29,28 +45,31 @@ struct Between {
 }
 
 // Takes the line on to its end in the piece and answers it there, or keeps what the piece has of it.
+// `inspect` has a function of this kind and one like `answer_piece`. One for both needs a trait for what answers a line, and `Reading` would be
+// stated a second time, from that trait's promise; the edit `answers-less` is of this crate.
 fn step(
     desk: Desk,
-    bytes: &mut [u8],
+    bytes: &mut [u8; LINE],
     at: usize,
     piece: &[u8],
     from: usize,
-    table: &mut [u16],
-    room: &mut [u8],
-    out: &mut [u8],
+    rooms: &mut Rooms,
 ) -> Progress
-    requires { (length bytes.old ≡ 1041) × (at ≤ 1041) × (from < length piece.now) × (16016 ≤ length table.old) × (6000 ≤ length room.old) × (65536 ≤ length out.old) }
-    ensures advances { (from < result.from) × (result.from ≤ length piece.now) × (result.at ≤ 1041) × (result.written ≤ length out.old) }
-    ensures stepping { Stepping desk bytes.old bytes.new at piece.now from table.old table.new room.old room.new out.old out.new result }
+    requires { (at ≤ 1041) × (from < length piece.now) }
+    ensures advances { (from < result.from) × (result.from ≤ length piece.now) × (result.at ≤ 1041) × (result.written ≤ 65536) }
+    ensures stepping { Stepping desk bytes.old bytes.new at piece.now from rooms.old.table rooms.new.table rooms.old.room rooms.new.room rooms.old.out rooms.new.out result }
 {
     let fed = feed(bytes, at, piece, from);
     let kept = fed.at;
     let next = fed.from;
     if fed.whole {
-        let turn = desk.answer(&bytes[0..kept], table, room, out);
-        let after = turn.desk;
+        // One by one, and by no method of `Rooms`: it would copy the desk once more a line.
+        let table = &mut rooms.table;
+        let room = &mut rooms.room;
+        let out = &mut rooms.out;
+        let turn = desk.answer(&bytes[..kept], table, room, out);
         return Progress {
-            desk: after,
+            desk: turn.desk,
             at: 0,
             from: next,
             written: turn.written,
@@ -67,17 +86,15 @@ fn step(
 // All lines that end in a piece, each answered and its reply written before the next is taken on.
 fn answer_piece(
     desk: Desk,
-    bytes: &mut [u8],
+    bytes: &mut [u8; LINE],
     at: usize,
     piece: &[u8],
-    table: &mut [u16],
-    room: &mut [u8],
-    out: &mut [u8],
-    rt: &HostRuntime,
+    rooms: &mut Rooms,
+    rt: &impl Print,
 ) -> Between
-    requires { (length bytes.old ≡ 1041) × (at ≤ 1041) × (16016 ≤ length table.old) × (6000 ≤ length room.old) × (65536 ≤ length out.old) }
+    requires { at ≤ 1041 }
     ensures at_bound { result.at ≤ 1041 }
-    ensures reading { Reading desk bytes.old bytes.new at piece.now table.old table.new room.old room.new out.old out.new result }
+    ensures reading { Reading desk bytes.old bytes.new at piece.now rooms.old.table rooms.new.table rooms.old.room rooms.new.room rooms.old.out rooms.new.out result }
 {
     let mut s = Progress {
         desk,
@@ -85,68 +102,55 @@ fn answer_piece(
         from: 0,
         written: 0,
     };
+    // No `for`: each step says where the piece is read on.
     while s.from < piece.len() {
-        let d = s.desk;
-        s = step(d, bytes, s.at, piece, s.from, table, room, out);
-        let n = s.written;
-        rt.write_all(&out[0..n]).ok();
+        s = step(s.desk, bytes, s.at, piece, s.from, rooms);
+        rt.write_all(&rooms.out[..s.written]).ok();
     }
-    let d = s.desk;
-    Between { desk: d, at: s.at }
+    Between {
+        desk: s.desk,
+        at: s.at,
+    }
 }
 
 // A last line without a line end counts if it isn't empty.
-fn finish(
-    desk: Desk,
-    bytes: &[u8],
-    at: usize,
-    table: &mut [u16],
-    room: &mut [u8],
-    out: &mut [u8],
-) -> Turn
-    requires { (length bytes.now ≡ 1041) × (at ≤ 1041) × (16016 ≤ length table.old) × (6000 ≤ length room.old) × (65536 ≤ length out.old) }
-    ensures written_in_bounds { result.written ≤ length out.old }
-    ensures finishing { Finishing desk bytes.now at table.old table.new room.old room.new out.old out.new result }
+fn finish(desk: Desk, bytes: &[u8; LINE], at: usize, rooms: &mut Rooms) -> Turn
+    requires { at ≤ 1041 }
+    ensures written_in_bounds { result.written ≤ 65536 }
+    ensures finishing { Finishing desk bytes.now at rooms.old.table rooms.new.table rooms.old.room rooms.new.room rooms.old.out rooms.new.out result }
 {
     if at == 0 {
         return Turn { desk, written: 0 };
     }
-    desk.answer(&bytes[0..at], table, room, out)
+    desk.answer(
+        &bytes[..at],
+        &mut rooms.table,
+        &mut rooms.room,
+        &mut rooms.out,
+    )
 }
 
 // A proved loop has to end, and nothing says that the input does: the count is one that no run uses up.
 fn main(rt: HostRuntime) {
     let mut bytes = [0u8; LINE];
     let mut piece = [0u8; 65536];
-    // Enough for every question and every reply, as the crate `rooms` shows.
-    let mut table = [0u16; 16016];
-    let mut room = [0u8; 6000];
-    let mut out = [0u8; 65536];
+    let mut rooms = Rooms {
+        table: [0; TABLE],
+        room: [0; RECORDS],
+        out: [0; REPLY],
+    };
     let mut b = Between {
         desk: Desk::new(),
         at: 0,
     };
-    let mut more = true;
     let mut input = rt.stdin();
-    let mut reads = u64::MAX;
-    while 0 < reads && more {
-        reads -= 1;
+    for _ in 0..u64::MAX {
         let n = input.read(&mut piece).unwrap_or(0);
-        more = 0 < n;
-        let d = b.desk;
-        b = answer_piece(
-            d,
-            &mut bytes,
-            b.at,
-            &piece[0..n],
-            &mut table,
-            &mut room,
-            &mut out,
-            &rt,
-        );
+        if n == 0 {
+            break;
+        }
+        b = answer_piece(b.desk, &mut bytes, b.at, &piece[..n], &mut rooms, &rt);
     }
-    let d = b.desk;
-    let last = finish(d, &bytes, b.at, &mut table, &mut room, &mut out);
-    let n = last.written;
-    rt.write_all(&out[0..n]).ok();
+    let last = finish(b.desk, &bytes, b.at, &mut rooms);
+    rt.write_all(&rooms.out[..last.written]).ok();
 }

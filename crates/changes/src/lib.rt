@@ -2,13 +2,14 @@
 #![tactic(auto)]
 
 ghost use Rattle.std.specs.Prelude.{◌≡◌, true};
-ghost use Rattle.terms.specs.Refusals.{first_fault};
+ghost use Rattle.terms.specs.Refusals.{first_fault, fault_of};
 ghost use Rattle.changes.specs.Changes.{done_of, back_of, length_by, limits_by, place_fault, letter_fault, edit_faults, accepts, accepts_then};
 ghost use Rattle.changes.specs.Work.{fits};
 
 use terms::LETTERS;
 use terms::alphabets::is_in;
-use terms::limits::{Limits, kind_refusal, lengths_refusal};
+use terms::limits::{Limits, check_kind, check_lengths};
+use terms::refusal::Refusal;
 
 // A change, with what it replaced.
 #[derive(Clone, Copy)]
@@ -50,51 +51,53 @@ pub enum Edit {
     TakeOut { place: usize },
 }
 
-// What refusal 6 says of a place where a letter must stand: 6, or 0 where it is one of n letters.
-fn place_refusal(place: usize, n: usize) -> usize
-    ensures { result ≡ first_fault (place_fault n place) }
+// What refusal 6 says of a place where a letter must stand: it is one of n letters.
+#[tactic(auto, unfolding(crate::specs::Changes::place_fault, terms::specs::Refusals::first_fault))]
+fn check_place(place: usize, n: usize) -> Result<(), Refusal>
+    ensures { fault_of result ≡ first_fault (place_fault n place) }
 {
     if place < n {
-        return 0;
+        Ok(())
+    } else {
+        Err(Refusal::NoSuchPlace)
     }
-    6
 }
 
-// What refusal 19 says of one letter: 19, or 0 where the byte is of the alphabet.
-fn letter_refusal(byte: u8, alphabet: &[u8]) -> usize
-    ensures { result ≡ first_fault (letter_fault alphabet.now byte) }
+// What refusal 19 says of one letter: the byte is of the alphabet.
+#[tactic(auto, unfolding(crate::specs::Changes::letter_fault, terms::specs::Refusals::first_fault))]
+fn check_letter(byte: u8, alphabet: &[u8]) -> Result<(), Refusal>
+    ensures { fault_of result ≡ first_fault (letter_fault alphabet.now byte) }
 {
     if is_in(alphabet, byte) {
-        return 0;
+        Ok(())
+    } else {
+        Err(Refusal::OutsideAlphabet)
     }
-    19
 }
 
 impl Edit {
-    // The first refusal that its call has of the edit, on n letters of the alphabet, 0 where there is none.
-    pub fn refusal(self, n: usize, alphabet: &[u8]) -> usize
-        ensures { result ≡ first_fault (edit_faults n alphabet.now self) }
+    // The first refusal that its call has of the edit, on n letters of the alphabet.
+    #[tactic(auto, unfolding(crate::specs::Changes::edit_faults, terms::specs::Refusals::first_fault))]
+    pub fn check(self, n: usize, alphabet: &[u8]) -> Result<(), Refusal>
+        ensures { fault_of result ≡ first_fault (edit_faults n alphabet.now self) }
     {
         match self {
             Edit::Letter { place, byte } => {
-                let number = place_refusal(place, n);
-                if number != 0 {
-                    return number;
-                }
-                letter_refusal(byte, alphabet)
+                check_place(place, n)?;
+                check_letter(byte, alphabet)
             }
-            Edit::Kind { kind, d } => kind_refusal(kind, d),
-            Edit::Lengths { m, g } => lengths_refusal(m, g),
+            Edit::Kind { kind, d } => check_kind(kind, d),
+            Edit::Lengths { m, g } => check_lengths(m, g),
             Edit::PutIn { place, byte } => {
                 if n < place {
-                    return 6;
+                    return Err(Refusal::NoSuchPlace);
                 }
                 if LETTERS <= n {
-                    return 1;
+                    return Err(Refusal::StringTooLong);
                 }
-                letter_refusal(byte, alphabet)
+                check_letter(byte, alphabet)
             }
-            Edit::TakeOut { place } => place_refusal(place, n),
+            Edit::TakeOut { place } => check_place(place, n),
         }
     }
 
@@ -102,17 +105,15 @@ impl Edit {
     pub fn accepted(self, n: usize, alphabet: &[u8]) -> bool
         ensures { result ≡ accepts n alphabet.now self }
     {
-        self.refusal(n, alphabet) == 0
+        self.check(n, alphabet).is_ok()
     }
 
     // Whether the edit would be accepted on n letters of the alphabet, and then the other on those it leaves.
+    #[tactic(auto, unfolding(crate::specs::Changes::accepts_then))]
     pub fn accepted_then(self, other: Edit, n: usize, alphabet: &[u8]) -> bool
         ensures { result ≡ accepts_then n alphabet.now self other }
     {
-        if !self.accepted(n, alphabet) {
-            return false;
-        }
-        other.accepted(self.length_after(n), alphabet)
+        self.accepted(n, alphabet) && other.accepted(self.length_after(n), alphabet)
     }
 
     // The number of letters after the edit, of n letters.
@@ -121,11 +122,9 @@ impl Edit {
         ensures { result ≡ length_by self n }
     {
         match self {
-            Edit::Letter { place: _, byte: _ } => n,
-            Edit::Kind { kind: _, d: _ } => n,
-            Edit::Lengths { m: _, g: _ } => n,
-            Edit::PutIn { place: _, byte: _ } => n + 1,
-            Edit::TakeOut { place: _ } => n - 1,
+            Edit::Letter { .. } | Edit::Kind { .. } | Edit::Lengths { .. } => n,
+            Edit::PutIn { .. } => n + 1,
+            Edit::TakeOut { .. } => n - 1,
         }
     }
 
@@ -134,21 +133,9 @@ impl Edit {
         ensures { result ≡ limits_by self limits }
     {
         match self {
-            Edit::Letter { place: _, byte: _ } => limits,
-            Edit::Kind { kind, d } => Limits {
-                kind,
-                m: limits.m,
-                g: limits.g,
-                d,
-            },
-            Edit::Lengths { m, g } => Limits {
-                kind: limits.kind,
-                m,
-                g,
-                d: limits.d,
-            },
-            Edit::PutIn { place: _, byte: _ } => limits,
-            Edit::TakeOut { place: _ } => limits,
+            Edit::Letter { .. } | Edit::PutIn { .. } | Edit::TakeOut { .. } => limits,
+            Edit::Kind { kind, d } => Limits { kind, d, ..limits },
+            Edit::Lengths { m, g } => Limits { m, g, ..limits },
         }
     }
 }
@@ -159,21 +146,11 @@ impl Change {
         ensures { result ≡ done_of self }
     {
         match self {
-            Change::Letter { place, old: _, new } => Edit::Letter { place, byte: new },
-            Change::Kind {
-                old_kind: _,
-                old_d: _,
-                kind,
-                d,
-            } => Edit::Kind { kind, d },
-            Change::Lengths {
-                old_m: _,
-                old_g: _,
-                m,
-                g,
-            } => Edit::Lengths { m, g },
+            Change::Letter { place, new, .. } => Edit::Letter { place, byte: new },
+            Change::Kind { kind, d, .. } => Edit::Kind { kind, d },
+            Change::Lengths { m, g, .. } => Edit::Lengths { m, g },
             Change::PutIn { place, byte } => Edit::PutIn { place, byte },
-            Change::TakeOut { place, byte: _ } => Edit::TakeOut { place },
+            Change::TakeOut { place, .. } => Edit::TakeOut { place },
         }
     }
 
@@ -182,23 +159,17 @@ impl Change {
         ensures { result ≡ back_of self }
     {
         match self {
-            Change::Letter { place, old, new: _ } => Edit::Letter { place, byte: old },
+            Change::Letter { place, old, .. } => Edit::Letter { place, byte: old },
             Change::Kind {
                 old_kind,
                 old_d,
-                kind: _,
-                d: _,
+                ..
             } => Edit::Kind {
                 kind: old_kind,
                 d: old_d,
             },
-            Change::Lengths {
-                old_m,
-                old_g,
-                m: _,
-                g: _,
-            } => Edit::Lengths { m: old_m, g: old_g },
-            Change::PutIn { place, byte: _ } => Edit::TakeOut { place },
+            Change::Lengths { old_m, old_g, .. } => Edit::Lengths { m: old_m, g: old_g },
+            Change::PutIn { place, .. } => Edit::TakeOut { place },
             Change::TakeOut { place, byte } => Edit::PutIn { place, byte },
         }
     }

@@ -1,26 +1,28 @@
 // The desk: one line in, one reply out, over 'no sheet yet' or a sheet.
 #![tactic(auto)]
 
-ghost use Rattle.std.specs.Prelude.{◌≡◌, true};
+ghost use Rattle.std.specs.Prelude.{◌≡◌};
+ghost use Rattle.terms.specs.Refusals.{refusal_number};
 ghost use Rattle.terms.specs.Texts.{text_all};
 ghost use Rattle.sheet.specs.Calls.{open_call, change_call, take_back_call, put_again_call};
 ghost use Rattle.replies.specs.Replies.{said_text, restored_text, refusal_text};
 ghost use Rattle.desk.specs.Desk.{new_desk, with_sheet, map_of, opening, calling, DeskReply};
-ghost use Rattle.desk.specs.Work.{Turned, AskedOf};
+ghost use Rattle.desk.specs.Work.{said_behind, Turned, AskedOf};
 
 use changes::Edit;
 use lines::Line;
-use printing::put_line;
-use replies::{number_of, put_record_lines, put_refusal, put_restored, put_said};
+use printing::Page;
+use replies::{put_record_lines, put_refusal, put_restored, put_said};
 use sheet::{Reply, Sheet};
 use terms::limits::Limits;
+use terms::refusal::Refusal;
 use terms::{alphabets, maps};
+use texts::Text;
 
 // A sheet, if one is open.
 #[derive(Clone, Copy)]
 pub struct Desk {
-    pub opened: bool,
-    pub sheet: Sheet,
+    pub sheet: Option<Sheet>,
 }
 
 // The desk after a line, and how many bytes of its reply stand at the start of the room.
@@ -35,40 +37,26 @@ fn map_of(complement: bool) -> [u8; 256]
     ensures { result ≡ map_of complement }
 {
     if complement {
-        return maps::complement();
-    }
-    maps::plain()
-}
-
-// A sheet is open, and what its call says is printed.
-fn said(reply: Reply, out: &mut [u8]) -> Turn
-    ensures { Turned (with_sheet reply.sheet, said_text reply.said) out.old out.new result }
-{
-    let sheet = reply.sheet;
-    let said = reply.said;
-    let written = put_said(out, 0, said);
-    Turn {
-        desk: Desk {
-            opened: true,
-            sheet,
-        },
-        written,
+        maps::complement()
+    } else {
+        maps::plain()
     }
 }
 
-// The same behind the letter of a take-back or a put-again.
-fn restored(reply: Reply, letter: u8, out: &mut [u8]) -> Turn
-    ensures { Turned (with_sheet reply.sheet, restored_text letter reply.said) out.old out.new result }
+// A sheet is open, and what its call says is printed; behind a letter, what a take-back or a put-again says.
+fn said(reply: Reply, letter: Option<u8>, out: &mut [u8]) -> Turn
+    ensures { Turned (with_sheet reply.sheet, said_behind letter reply.said) out.old out.new result }
 {
-    let sheet = reply.sheet;
-    let said = reply.said;
-    let written = put_restored(out, letter, said);
+    let mut page = Page { room: out, at: 0 };
+    match letter {
+        None => put_said(&mut page, reply.said),
+        Some(letter) => put_restored(&mut page, letter, reply.said),
+    }
     Turn {
         desk: Desk {
-            opened: true,
-            sheet,
+            sheet: Some(reply.sheet),
         },
-        written,
+        written: page.at,
     }
 }
 
@@ -77,18 +65,14 @@ impl Desk {
     pub fn new() -> Desk
         ensures { result ≡ new_desk }
     {
-        let sheet = Sheet::blank();
-        Desk {
-            opened: false,
-            sheet,
-        }
+        Desk { sheet: None }
     }
 
-    // The desk stays, and a number is printed.
-    fn refused(self, number: usize, out: &mut [u8]) -> Turn
-        ensures { Turned (self, refusal_text number) out.old out.new result }
+    // The desk stays, and a refusal is printed.
+    fn refused(self, refusal: Refusal, out: &mut [u8]) -> Turn
+        ensures { Turned (self, refusal_text (refusal_number refusal)) out.old out.new result }
     {
-        let written = put_refusal(out, number);
+        let written = put_refusal(out, refusal.number());
         Turn {
             desk: self,
             written,
@@ -101,72 +85,71 @@ impl Desk {
     {
         let map = map_of(complement);
         let all = alphabets::all();
-        let reply = Sheet::open(string, &map, limits, &all);
-        let what = reply.said;
-        let number = number_of(what);
-        if number == 0 {
-            return said(reply, out);
-        }
-        let written = put_said(out, 0, what);
-        Turn {
-            desk: self,
-            written,
+        let text = Text {
+            letters: string,
+            map: &map,
+            alphabet: &all,
+        };
+        let reply = Sheet::open(text, limits);
+        match reply.said {
+            Ok(_) => said(reply, None, out),
+            Err(refusal) => self.refused(refusal, out),
         }
     }
 
     // A call for a change, or 14.
+    // No function for the three calls with the call as a closure: it was tried, and each line copied the sheet three times more.
+    #[tactic(auto, unfolding(crate::specs::Desk::calling))]
     fn change(self, e: Edit, out: &mut [u8]) -> Turn
-        ensures { Turned (calling self (change_call self.sheet e) said_text) out.old out.new result }
+        ensures { Turned (calling self (λ s. change_call s e) said_text) out.old out.new result }
     {
-        if !self.opened {
-            return self.refused(14, out);
+        match self.sheet {
+            Some(sheet) => said(sheet.ask(e), None, out),
+            None => self.refused(Refusal::NoSheet, out),
         }
-        let sheet = self.sheet;
-        said(sheet.ask(e), out)
     }
 
     // A take-back, or 14.
+    #[tactic(auto, unfolding(crate::specs::Desk::calling))]
     fn take_back(self, out: &mut [u8]) -> Turn
-        ensures { Turned (calling self (take_back_call self.sheet) (restored_text 66)) out.old out.new result }
+        ensures { Turned (calling self take_back_call (restored_text 66)) out.old out.new result }
     {
-        if !self.opened {
-            return self.refused(14, out);
+        match self.sheet {
+            Some(sheet) => said(sheet.take_back(), Some(b'B'), out),
+            None => self.refused(Refusal::NoSheet, out),
         }
-        let sheet = self.sheet;
-        restored(sheet.take_back(), b'B', out)
     }
 
     // A put-again, or 14.
+    #[tactic(auto, unfolding(crate::specs::Desk::calling))]
     fn put_again(self, out: &mut [u8]) -> Turn
-        ensures { Turned (calling self (put_again_call self.sheet) (restored_text 65)) out.old out.new result }
+        ensures { Turned (calling self put_again_call (restored_text 65)) out.old out.new result }
     {
-        if !self.opened {
-            return self.refused(14, out);
+        match self.sheet {
+            Some(sheet) => said(sheet.put_again(), Some(b'A'), out),
+            None => self.refused(Refusal::NoSheet, out),
         }
-        let sheet = self.sheet;
-        restored(sheet.put_again(), b'A', out)
     }
 
     // The question: its refusal, or the tiling's figures and a line for each record.
     fn question(self, table: &mut [u16], room: &mut [u8], out: &mut [u8]) -> Turn
         ensures { AskedOf self table.old table.new room.old room.new out.old out.new result }
     {
-        if !self.opened {
-            return self.refused(14, out);
-        }
-        let sheet = self.sheet;
-        let answer = sheet.question(table, room);
-        let number = answer.number;
-        if number != 0 {
-            return self.refused(number, out);
-        }
+        let Some(sheet) = self.sheet else {
+            return self.refused(Refusal::NoSheet, out);
+        };
+        let answer = match sheet.question(table, room) {
+            Ok(answer) => answer,
+            Err(why) => return self.refused(Refusal::from(why), out),
+        };
         let parts = answer.parts;
         let numbers = [answer.total, parts, answer.gaps];
-        let figures = put_line(out, 0, b'Q', &numbers);
-        let written = put_record_lines(out, figures, room, parts);
+        let mut page = Page { room: out, at: 0 };
+        page.put_line(b'Q', &numbers);
+        put_record_lines(&mut page, room, parts);
         Turn {
             desk: self,
-            written,
+            written: page.at,
         }
     }
 
@@ -174,21 +157,20 @@ impl Desk {
     pub fn answer(self, line: &[u8], table: &mut [u16], room: &mut [u8], out: &mut [u8]) -> Turn
         ensures { DeskReply self line.now table.old table.new room.old room.new out.old out.new result }
     {
-        let asked = lines::parse(line);
-        match asked {
-            Line::Open {
-                limits,
-                complement,
-                from,
-            } => {
-                let n = line.len();
-                self.open(limits, complement, &line[from..n], out)
-            }
-            Line::Change { edit } => self.change(edit, out),
-            Line::TakeBack => self.take_back(out),
-            Line::PutAgain => self.put_again(out),
-            Line::Question => self.question(table, room, out),
-            Line::Unknown => self.refused(13, out),
+        // One match, and no `let .. else`: a desk that is returned early is copied once more.
+        match lines::parse(line) {
+            Some(
+                Line::Open {
+                    limits,
+                    complement,
+                    from,
+                },
+            ) => { self.open(limits, complement, &line[from..], out) }
+            Some(Line::Change { edit }) => self.change(edit, out),
+            Some(Line::TakeBack) => self.take_back(out),
+            Some(Line::PutAgain) => self.put_again(out),
+            Some(Line::Question) => self.question(table, room, out),
+            None => self.refused(Refusal::NotUnderstood, out),
         }
     }
 }

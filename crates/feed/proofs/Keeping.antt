@@ -3,7 +3,6 @@ use mathlib.Core.Path.{◌≡◌, sym, ◌∙◌}
 use mathlib.Core.Bool.{Bool, true, false, cond}
 use mathlib.Core.List.{List, [], ◌∷◌, ◌++◌, append-nil}
 use Prim.Native.Nat.{ℕ, suc, ◌+◌, ◌-◌, ◌≤◌, ◌<◌}
-use native.Mathlib.Nat.{add-zero}
 use native.Mathlib.Omega.{arith}
 use native.Mathlib.Decide.{dec_le}
 use lib.ListN.{length, take, drop, set, length-set, length-append, length-take, length-drop}
@@ -13,7 +12,8 @@ use Rattle.printing.specs.Printing.{Put}
 use Rattle.printing.proofs.Laws.{sets_past}
 use Rattle.feed.specs.Lines.{Kept}
 use Rattle.feed.specs.Feeding.{up_to_end, ends, TakesOn}
-use Rattle.feed.proofs.Ends.{front}
+use Rattle.std.specs.Prelude.{Option, Some, None, unwrap_or}
+use Rattle.feed.proofs.Ends.{end_in, end_some, end_none, line_is}
 
 -- the first bytes of a room are a line that it keeps
 pub kept_self : (room : List ℕ) (at : ℕ) → at ≤ length room → Kept room at (take at room)
@@ -51,22 +51,27 @@ kept_on {room} {at} {line} (x ∷ part) {r} k p =
           (record { many = omega arith; bytes = rw (take-append-le (length room) line (x ∷ part)) k.bytes })
     ]
 
--- the bytes of the piece up to `end` are those of the line
-pub line_put : (piece : List ℕ) (from : ℕ) {room : List ℕ} {at kept end : ℕ} {room' : List ℕ} → end ≡ from + length (up_to_end (drop from piece))
-    → Put room at (take (end - from) (drop from piece)) kept room' → Put room at (up_to_end (drop from piece)) kept room'
-line_put piece from {end = end} e p =
-    let n : end - from ≡ length (up_to_end (drop from piece)) = omega arith in
-    rw (← front (drop from piece), ← n) p
+-- what is left of a piece
+pub left : (piece : List ℕ) (from : ℕ) → take (length piece - from) (drop from piece) ≡ drop from piece
+left piece from = take_all (length piece - from) (drop from piece) (omega (arith, length-drop from piece))
 
--- a feed, where the bytes of the piece up to `end` were put: there the line ends, or the piece
-module _ {room : List ℕ} {at : ℕ} {piece : List ℕ} {from kept : ℕ} {room' : List ℕ} {end : ℕ}
-    (e : end ≡ from + length (up_to_end (drop from piece))) (p : Put room at (take (end - from) (drop from piece)) kept room') where
-  feeds : (w : Bool) → ends (drop from piece) ≡ w → TakesOn room at piece from room' (record { at = kept; from = end + cond w 1 0; whole = w })
-  feeds w h line k =
-      record { kept = kept_on (up_to_end (drop from piece)) k (line_put piece from e p); whole = sym h; next = rw h (omega arith) }
+-- the bytes put of it are those up to its line end
+pub line_put : (piece : List ℕ) (from : ℕ) {room : List ℕ} {at n kept : ℕ} {room' : List ℕ} (o : Option ℕ)
+    → o ≡ end_in (take (length piece - from) (drop from piece)) → n ≡ unwrap_or o (length (take (length piece - from) (drop from piece)))
+    → Put room at (take n (take (length piece - from) (drop from piece))) kept room' → Put room at (up_to_end (drop from piece)) kept room'
+line_put piece from o e n p = rw (n, e, left piece from, line_is (drop from piece)) at p
 
-  pub line_ends : end < length piece → TakesOn room at piece from room' (record { at = kept; from = end + 1; whole = true })
-  line_ends h = feeds true (lt-ltb (length (up_to_end (drop from piece))) (length (drop from piece)) (omega (arith, length-drop from piece)))
+-- a feed, where the bytes of the piece up to its line end were put: there the line ends, or the piece
+module _ {room : List ℕ} {at : ℕ} {piece : List ℕ} {from kept : ℕ} {room' : List ℕ} (p : Put room at (up_to_end (drop from piece)) kept room') where
+  feeds : (w : Bool) (next : ℕ) → ends (drop from piece) ≡ w → next ≡ from + length (up_to_end (drop from piece)) + cond w 1 0 → TakesOn room at piece from room' (record { at = kept; from = next; whole = w })
+  feeds w next h n line k = record { kept = kept_on (up_to_end (drop from piece)) k p; whole = sym h; next = rw h n }
 
-  pub piece_ends : length piece ≤ end → TakesOn room at piece from room' (record { at = kept; from = end; whole = false })
-  piece_ends h = rw add-zero at (feeds false (le-ltb (length (up_to_end (drop from piece))) (length (drop from piece)) (omega (arith, length-drop from piece))))
+  pub line_ends : (k : ℕ) → end_in (drop from piece) ≡ Some k → TakesOn room at piece from room' (record { at = kept; from = from + k + 1; whole = true })
+  line_ends k e =
+      let s = end_some (drop from piece) k e in
+      feeds true (from + k + 1) (lt-ltb (length (up_to_end (drop from piece))) (length (drop from piece)) (omega arith)) (omega arith)
+
+  pub piece_ends : from ≤ length piece → end_in (drop from piece) ≡ None → TakesOn room at piece from room' (record { at = kept; from = length piece; whole = false })
+  piece_ends h e =
+      let n = end_none (drop from piece) e in
+      feeds false (length piece) (le-ltb (length (up_to_end (drop from piece))) (length (drop from piece)) (omega arith)) (omega (arith, length-drop from piece))

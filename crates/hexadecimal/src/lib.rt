@@ -11,60 +11,41 @@ pub struct HexRead {
     pub next: usize,
 }
 
-// The digit that a byte of a line stands for, 16 where it is none.
-fn digit(b: u8) -> usize
+// The digit that a byte of a line stands for, if it is one.
+#[tactic(auto, unfolding(crate::specs::Hex::digit_of))]
+fn digit(b: u8) -> Option<u8>
     ensures { result ≡ digit_of b }
 {
-    if b < 48 {
-        return 16;
+    match b {
+        b'0'..=b'9' => Some(b - b'0'),
+        b'a'..=b'f' => Some(b - b'a' + 10),
+        _ => None,
     }
-    if b <= 57 {
-        return (b - 48) as usize;
-    }
-    if b < 97 {
-        return 16;
-    }
-    if b <= 102 {
-        return (b - 87) as usize;
-    }
-    16
 }
 
-// The byte whose two digits stand at a place, 256 where no two stand there.
-fn byte_at(s: &[u8], i: usize) -> usize
+// The byte whose two digits stand at a place, if two stand there.
+#[tactic(auto, unfolding(crate::specs::Hex::byte_at, crate::specs::Hex::pair_of, crate::specs::Hex::digit_of))]
+fn byte_at(s: &[u8], i: usize) -> Option<u8>
     ensures { result ≡ byte_at s.now i }
 {
-    if s.len() <= i {
-        return 256;
-    }
-    if s.len() - i < 2 {
-        return 256;
-    }
-    let high = digit(s[i]);
-    if 15 < high {
-        return 256;
-    }
-    let low = digit(s[i + 1]);
-    if 15 < low {
-        return 256;
-    }
-    high * 16 + low
+    let high = digit(*s.get(i)?)?;
+    let low = digit(*s.get(i + 1)?)?;
+    Some(high * 16 + low)
 }
 
 // Bytes read from a place on into the room, as far as their digits go and the room goes; the room's later bytes stay.
+#[tactic(auto, using(crate::proofs::Reading::byte_in))]
 pub fn read_hex(s: &[u8], from: usize, room: &mut [u8]) -> HexRead
     ensures { Reads s.now from room.old room.new result }
 {
-    let mut k = 0;
     let mut at = from;
-    while k < room.len() {
-        let b = byte_at(s, at);
-        if 255 < b {
+    for (k, slot) in room.iter_mut().enumerate() {
+        let Some(b) = byte_at(s, at) else {
             return HexRead { bytes: k, next: at };
-        }
-        room[k] = b as u8;
-        k += 1;
+        };
+        *slot = b;
         at += 2;
     }
-    HexRead { bytes: k, next: at }
+    let bytes = room.len();
+    HexRead { bytes, next: at }
 }

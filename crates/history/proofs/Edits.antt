@@ -7,6 +7,7 @@ use native.Mathlib.Numerals.{add-one}
 use native.Mathlib.Omega.{arith}
 use lib.ListN.{get_or, set, length, take, drop, length-set, take-append-drop}
 use lib.Seq.{get_or-set_same, set-set, set-get_or, length-take-le, get_or_at, split_at, take_at, drop_at, drop-drop}
+use Rattle.std.specs.Prelude.{Ok}
 use Rattle.terms.specs.Refusals.{first_fault}
 use Rattle.terms.specs.Alphabets.{is_in}
 use Rattle.terms.specs.Limits.{limits_faults, with_kind, with_lengths}
@@ -15,12 +16,12 @@ use Rattle.terms.specs.declared.limits.Limits.{Limits}
 use Rattle.terms.proofs.Refusals.{opening_parts}
 use Rattle.changes.specs.Changes.{done_of, back_of, length_by, limits_by, accepts}
 use Rattle.changes.specs.Work.{fits}
+use Rattle.changes.specs.declared.Change.{Change}
 use Rattle.changes.specs.declared.Edit.{Edit}
 use Rattle.changes.specs.declared.Edit.TheVariants.{Letter, Kind, Lengths, PutIn, TakeOut}
 use Rattle.changes.proofs.Accepting.{letter_in, put_in_letter, letter_accepted, put_in_accepted, take_out_accepted, kind_accepted, lengths_accepted, limits_pass, accepts_fits, fits_letter, fits_in, fits_out}
 use Rattle.shifts.specs.Shifts.{put_in, take_out, places_put_in, places_take_out, replacing}
 use Rattle.places.specs.Places.{padded}
-use Rattle.kept.specs.declared.Kept.{Kept}
 use Rattle.sheet.specs.Calls.{applied}
 use Rattle.sheet.specs.declared.Said.TheVariants.{Kind as SaidKind, Lengths as SaidLengths}
 use Rattle.sheet.specs.declared.Sheet.{Sheet}
@@ -90,7 +91,7 @@ make_opens c (TakeOut p) few a =
 -- on a sheet that holds a content: an edit made of the one is made of the other, what is said is so, and what takes it back is kept
 module _ {s : Sheet} {c : Content} (H : Holds s c) where
   -- the sheet with other letters, n of them, holds the content with them
-  letters_hold : (a x : List ℕ) (n : ℕ) (ks : List Kept) (st tk : ℕ) → a ≡ padded x → n ≡ length x
+  letters_hold : (a x : List ℕ) (n : ℕ) (ks : List Change) (st tk : ℕ) → a ≡ padded x → n ≡ length x
       → Holds (record { letters = a; n = n; map = s.map; alphabet = s.alphabet; limits = s.limits; kept = ks; standing = st; taken = tk }) (holding c x)
   letters_hold a x n ks st tk p q = record { letters = p; n = q; map = H.map; alphabet = H.alphabet; limits = H.limits }
 
@@ -118,7 +119,7 @@ module _ {s : Sheet} {c : Content} (H : Holds s c) where
       letters_hold _ _ _ _ st tk (ap₂ (λ (x : List ℕ) (k : ℕ). places_take_out x k p) H.letters n ∙ padded_out c.text.letters p (omega arith) (omega arith))
       (ap (λ (k : ℕ). k - 1) n ∙ sym (length_out c.text.letters p (omega arith)))
 
-  pub applied_says : (e : Edit) (st tk : ℕ) → fits s.n e ≡ true → (applied s e st tk).said ≡ say_back e c (make e c) st
+  pub applied_says : (e : Edit) (st tk : ℕ) → fits s.n e ≡ true → (applied s e st tk).said ≡ Ok (say_back e c (make e c) st)
   unfolding applied replacing
   applied_says (Letter p b) st tk f =
       let h : p < s.n = fits_letter s.n p b f in
@@ -126,8 +127,8 @@ module _ {s : Sheet} {c : Content} (H : Holds s c) where
       let old : get_or s.letters p 0 ≡ get_or c.text.letters p 0 = letter_at H p h in
       let new : get_or (set c.text.letters p b) p 0 ≡ b = get_or-set_same c.text.letters p b 0 (omega arith) in
       cc
-  applied_says (Kind k d) st tk f = ap (λ (l : Limits). SaidKind (with_kind l k d) st) H.limits
-  applied_says (Lengths m g) st tk f = ap (λ (l : Limits). SaidLengths (with_lengths l m g) st) H.limits
+  applied_says (Kind k d) st tk f = ap (λ (l : Limits). Ok (SaidKind (with_kind l k d) st)) H.limits
+  applied_says (Lengths m g) st tk f = ap (λ (l : Limits). Ok (SaidLengths (with_lengths l m g) st)) H.limits
   applied_says (PutIn p b) st tk f =
       let h = fits_in s.n p b f in
       let n : s.n ≡ size c.text = H.n in

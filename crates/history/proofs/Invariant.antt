@@ -7,8 +7,10 @@ use native.Mathlib.Numerals.{add-one}
 use native.Mathlib.Omega.{arith}
 use lib.ListN.{length, get_or, take, length-set}
 use lib.Seq.{get_or-take}
+use Rattle.std.specs.Prelude.{Result, Ok}
 use Rattle.terms.specs.Alphabets.{is_in}
 use Rattle.terms.specs.Texts.{size}
+use Rattle.terms.specs.declared.refusal.Refusal.{Refusal}
 use Rattle.terms.proofs.Passed.{sound_opening}
 use Rattle.changes.specs.Changes.{done_of, back_of, length_by, accepts}
 use Rattle.changes.specs.Work.{fits}
@@ -17,7 +19,6 @@ use Rattle.changes.specs.declared.Edit.{Edit}
 use Rattle.changes.proofs.Accepting.{accepts_fits}
 use Rattle.shifts.specs.Shifts.{replacing}
 use Rattle.kept.specs.Lists.{kept_at, kept_accepted}
-use Rattle.kept.specs.declared.Kept.{Kept}
 use Rattle.sheet.specs.Bounds.{text_of, in_bounds}
 use Rattle.sheet.specs.Calls.{applied, changed}
 use Rattle.sheet.specs.declared.Reply.{Reply}
@@ -52,7 +53,7 @@ invariant_same o s t S T ks st tk =
     holds_same S.holds (subst (λ (es : List Edit). Holds t (made o es)) (sym (ap₂ standing_from ks st)) T.holds) ks st tk
 
 -- the reply of a call and the history's answer agree, and the sheet stays as it must
-abbrev pub Agrees : Content → Reply → History × Said → Type 0
+abbrev pub Agrees : Content → Reply → History × Result Said Refusal → Type 0
 Agrees o r x = Invariant o r.sheet × (x ≡ (history_of o r.sheet, r.said))
 
 module _ {o : Content} {s : Sheet} (S : Invariant o s) where
@@ -87,14 +88,14 @@ module _ {o : Content} {s : Sheet} (S : Invariant o s) where
         let f : fits s.n e ≡ true = accepts_fits s.n s.alphabet e a in
         let G : Holds (applied s e st tk).sheet (make e c) = applied_holds S.holds e st tk (bounds s S.bounds).letters f in
         let k : length (standing_from s.kept st) ≡ st = standing_length s.kept st in
-        let says : (applied s e st tk).said ≡ say_back e c (make e c) st = applied_says S.holds e st tk f in (
+        let says : (applied s e st tk).said ≡ Ok (say_back e c (make e c) st) = applied_says S.holds e st tk f in (
           record {
             bounds = applied_bounds s S.bounds e a st tk (still_opens e a (applied s e st tk).sheet G) sound;
             room = S.room;
             holds = subst (Holds (applied s e st tk).sheet) m G;
             restores = λ i h. S.restores i (omega arith);
           },
-          ap (λ (w : Said). (reached, w)) (ap₂ (say_back e c) (sym m) k ∙ sym says),
+          ap (λ (w : Result Said Refusal). (reached, w)) (ap₂ (λ (d : Content) (j : ℕ). Ok (say_back e c d j)) (sym m) k ∙ sym says),
         )
 
   -- the edit e is made and kept as the newest change
@@ -103,13 +104,13 @@ module _ {o : Content} {s : Sheet} (S : Invariant o s) where
   changed_agrees e a few =
       let room : length s.kept ≡ 64 = S.room in
       let l : s.standing < length s.kept = omega arith in
-      let x : Kept = record { what = replacing e s.letters s.limits } in
+      let x : Change = replacing e s.letters s.limits in
       let d : done_of (replacing e s.letters s.limits) ≡ e = replacing_done s e in
       let c : Content = current (history_of o s) in
       let f : fits s.n e ≡ true = accepts_fits s.n s.alphabet e a in
       let H : Holds (applied s e (s.standing + 1) 0).sheet (make e c) = applied_holds S.holds e (s.standing + 1) 0 (bounds s S.bounds).letters f in
       let G : Holds (changed s e).sheet (make e c) = record { letters = H.letters; n = H.n; map = H.map; alphabet = H.alphabet; limits = H.limits } in
-      let says : (applied s e (s.standing + 1) 0).said ≡ say_back e c (make e c) (s.standing + 1) = applied_says S.holds e (s.standing + 1) 0 f in
+      let says : (applied s e (s.standing + 1) 0).said ≡ Ok (say_back e c (make e c) (s.standing + 1)) = applied_says S.holds e (s.standing + 1) 0 f in
       let k : suc (length (standing_of s)) ≡ s.standing + 1 = rw (standing_length, add-one) in
       let is : e ∷ standing_of s ≡ standing_of (changed s e).sheet = rw (add-one, standing_new s.kept s.standing x l, d) in (
         record {
@@ -123,5 +124,5 @@ module _ {o : Content} {s : Sheet} (S : Invariant o s) where
               (all_new s.kept s.standing x l (λ j y. Restores o y (standing_from s.kept j)) (λ j g. S.restores j (omega arith))
               (record { fitted = (λ i. fits (sym S.holds.n i) (d i)) ∙ f; old = replacing_back S.holds e f ∙ ap (back c) (sym d) }) i (omega arith));
         },
-        ap₂ (λ (es : List Edit) (w : Said). (record { opening = o; standing = es; taken = [] }, w)) is (ap (say_back e c (make e c)) k ∙ sym says),
+        ap₂ (λ (es : List Edit) (w : Result Said Refusal). (record { opening = o; standing = es; taken = [] }, w)) is (ap (λ (j : ℕ). Ok (say_back e c (make e c) j)) k ∙ sym says),
       )

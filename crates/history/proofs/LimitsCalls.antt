@@ -17,7 +17,7 @@ use Rattle.sheet.specs.Calls.{number_of, applied, changed, change_faults, change
 use Rattle.history.specs.LimitsCalls.{SameLengths, SameKind, limits_left, LimitsLaws}
 use Rattle.sheet.specs.declared.Sheet.{Sheet}
 use Rattle.sheet.proofs.Asked.{content_opens}
-use Rattle.sheet.proofs.Replying.{answered_either, number_is, changed_accepted, change_sound}
+use Rattle.sheet.proofs.Replying.{answered_either, number_is, change_named, changed_accepted, change_sound}
 use Rattle.history.proofs.Writing.{limits_open}
 use Rattle.history.proofs.Openings.{number_of_opening}
 
@@ -47,7 +47,7 @@ module _ (s : Sheet) where
 
   -- the number said is 0 or one of the call's list
   change_listed : (e : Edit) → OneOf (number_of (change_call s e).said) (0 ∷ numbers (change_faults s e))
-  change_listed e = subst (λ (n : ℕ). OneOf n (0 ∷ numbers (change_faults s e))) (sym (number_is (change_faults s e) s (changed s e) (changed_accepted s e))) (fault_listed (change_faults s e))
+  change_listed e = subst (λ (n : ℕ). OneOf n (0 ∷ numbers (change_faults s e))) (sym (number_is (change_faults s e) s (changed s e) (change_named s e) (changed_accepted s e))) (fault_listed (change_faults s e))
 
   pub limits_laws : LimitsLaws s
   unfolding change_faults edit_faults kind_faults lengths_faults

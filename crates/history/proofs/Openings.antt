@@ -6,6 +6,7 @@ use mathlib.Core.Logic.{inl, inr}
 use Prim.Native.Nat.{ℕ}
 use native.Mathlib.Omega.{arith}
 use lib.ListN.{length-replicate}
+use Rattle.std.specs.Prelude.{Ok}
 use Rattle.terms.specs.Refusals.{first_fault}
 use Rattle.terms.specs.Maps.{every_below, plain_map}
 use Rattle.terms.specs.Alphabets.{all_bytes, closed_under, spelt, alphabet_faults}
@@ -14,8 +15,8 @@ use Rattle.terms.specs.Texts.{Text, text_all, size, opening_faults}
 use Rattle.terms.specs.declared.limits.Limits.{Limits}
 use Rattle.terms.proofs.Supplied.{plain_passes}
 use Rattle.terms.proofs.Passed.{sound_opening}
-use Rattle.questions.specs.Tiling.{TilingReply}
-use Rattle.questions.specs.declared.Answer.{Answer}
+use Rattle.terms.proofs.Named.{opening_named}
+use Rattle.questions.specs.Tiling.{Answer, TilingReply}
 use Rattle.questions.proofs.Readers.{one_reply}
 use Rattle.kept.specs.Lists.{no_change}
 use Rattle.kept.proofs.Walking.{go_none, kept_is}
@@ -37,11 +38,11 @@ module _ (x : Text) (l : Limits) where
   opening = record { text = x; limits = l }
 
   -- an opening is accepted where it has no fault
-  pub opens : first_fault (opening_faults x l) ≡ 0 → open_call x l ≡ record { sheet = opened x l; said = Opened (size x) }
+  pub opens : first_fault (opening_faults x l) ≡ 0 → open_call x l ≡ record { sheet = opened x l; said = Ok (Opened (size x)) }
   opens e = answer_yes _ _ _ (sym e)
 
   pub number_of_opening : number_of (open_call x l).said ≡ first_fault (opening_faults x l)
-  number_of_opening = number_is (opening_faults x l) blank_sheet (record { sheet = opened x l; said = Opened (size x) }) refl
+  number_of_opening = number_is (opening_faults x l) blank_sheet (record { sheet = opened x l; said = Ok (Opened (size x)) }) (opening_named x l) refl
 
   -- and its sheet is the opening with no changes made
   pub opened_invariant : first_fault (opening_faults x l) ≡ 0 → Invariant opening (opened x l)

@@ -8,25 +8,25 @@ use lib.ListN.{get_or, set, length, take, drop, replicate, length-set, length-ap
 use lib.Seq.{set-append_left, length-take-le, take-append_seam, drop-append_seam, drop-append-add}
 use Rattle.terms.specs.Texts.{size}
 use Rattle.shifts.specs.Shifts.{put_in, take_out, places_put_in, places_take_out}
-use Rattle.places.specs.Places.{padded}
+use Rattle.places.specs.Places.{padded, padded_to}
 use Rattle.sheet.specs.declared.Sheet.{Sheet}
 use Rattle.history.specs.History.{Content}
 use Rattle.history.specs.Runs.{content_of}
 
 module _ (x : List ℕ) where
   pub padded_take : take (length x) (padded x) ≡ x
-  unfolding padded
+  unfolding padded_to
   padded_take = take-append_seam x (replicate (1000 - length x) 0)
 
   module _ (p : ℕ) (h : p < length x) where
     pub padded_set : (b : ℕ) → set (padded x) p b ≡ padded (set x p b)
-    unfolding padded
+    unfolding padded_to
     padded_set b =
         set-append_left x (replicate (1000 - length x) 0) p b h
         ∙ ap (λ (k : ℕ). set x p b ++ replicate (1000 - k) 0) (sym (length-set x p b))
 
     padded_at : get_or (padded x) p 0 ≡ get_or x p 0
-    unfolding padded
+    unfolding padded_to
     padded_at = get_or-append x (replicate (1000 - length x) 0) 0 p h
 
   -- a letter put in and one taken out
@@ -43,7 +43,7 @@ module _ (x : List ℕ) where
       length-append (take p x) (drop (suc p) x) ∙ omega arith
 
   padded_next : length x < 1000 → drop (suc (length x)) (padded x) ≡ replicate (1000 - (length x + 1)) 0
-  unfolding padded
+  unfolding padded_to
   padded_next k =
       let m : 1000 - length x ≡ suc (1000 - (length x + 1)) = omega arith in
       ap (λ (j : ℕ). drop (suc (length x)) (x ++ replicate j 0)) m
@@ -51,17 +51,17 @@ module _ (x : List ℕ) where
       ∙ drop-append-add x (0 ∷ replicate (1000 - (length x + 1)) 0) 1
 
   padded_rest : drop (length x) (padded x) ≡ replicate (1000 - length x) 0
-  unfolding padded
+  unfolding padded_to
   padded_rest = drop-append_seam x (replicate (1000 - length x) 0)
 
   pub padded_in : (p b : ℕ) → p ≤ length x → length x < 1000 → places_put_in (padded x) (length x) p b ≡ padded (put_in x p b)
-  unfolding places_put_in padded
+  unfolding places_put_in padded_to
   padded_in p b h k =
       ap₂ (λ (y z : List ℕ). put_in y p b ++ z) padded_take (padded_next k)
       ∙ ap (λ (j : ℕ). put_in x p b ++ replicate (1000 - j) 0) (sym (length_in p b h))
 
   pub padded_out : (p : ℕ) → p < length x → length x ≤ 1000 → places_take_out (padded x) (length x) p ≡ padded (take_out x p)
-  unfolding places_take_out padded
+  unfolding places_take_out padded_to
   padded_out p h k =
       let m : suc (1000 - length x) ≡ 1000 - (length x - 1) = omega arith in
       ap₂ (λ (y z : List ℕ). take_out y p ++ 0 ∷ z) padded_take padded_rest

@@ -7,7 +7,9 @@ use native.Mathlib.Omega.{arith}
 use borrow.Author.Tests.{eqb-true}
 use lib.Dec.{eqb}
 use lib.ListN.{length}
+use Rattle.std.specs.Prelude.{Result}
 use Rattle.terms.specs.Refusals.{first_fault}
+use Rattle.terms.specs.declared.refusal.Refusal.{Refusal}
 use Rattle.changes.specs.Changes.{done_of, back_of, accepts}
 use Rattle.changes.specs.declared.Change.{Change}
 use Rattle.changes.specs.declared.Edit.{Edit}
@@ -52,7 +54,7 @@ again_made s st t w =
     answer_yes _ _ _ (again_number (counting s st (suc t)) w 0 (pop_some 9 (suc t) (kept_at s.kept st) (λ e. omega arith)).1) ∙ rw (p, add-one)
 
 module _ (o : Content) where
-  replied : (x : History × Said) (r r' : Reply) → r ≡ r' → Agrees o r' x → Agrees o r x
+  replied : (x : History × Result Said Refusal) (r r' : Reply) → r ≡ r' → Agrees o r' x → Agrees o r x
   replied x r r' e A = rw e A
 
   back_step : (s : Sheet) (st tk : ℕ) → Invariant o (counting s st tk)

@@ -4,16 +4,17 @@ use mathlib.Core.Bool.{Bool, true, false, cond}
 use mathlib.Core.List.{List, [], ◌∷◌, ◌++◌}
 use Prim.Native.Nat.{ℕ, zero, suc, ◌+◌, ◌≤◌}
 use native.Mathlib.Omega.{arith}
-use borrow.Author.Tests.{eqb-false}
 use lib.Dec.{eqb}
 use lib.ListN.{length}
+use Rattle.std.specs.Prelude.{Result, Ok}
 use Rattle.terms.specs.Refusals.{first_fault}
 use Rattle.terms.specs.Texts.{Text, size, opening_faults}
 use Rattle.terms.specs.declared.limits.Limits.{Limits}
+use Rattle.terms.specs.declared.refusal.Refusal.{Refusal}
+use Rattle.terms.proofs.Named.{not_zero}
 use Rattle.changes.specs.Changes.{done_of, back_of}
 use Rattle.changes.specs.declared.Change.{Change}
 use Rattle.changes.specs.declared.Edit.{Edit}
-use Rattle.changes.specs.declared.Edit.TheVariants.{Letter as EditLetter, Kind as EditKind, Lengths as EditLengths, PutIn as EditPutIn, TakeOut as EditTakeOut}
 use Rattle.kept.specs.Lists.{kept_at}
 use Rattle.sheet.specs.Calls.{number_of, refusing, answered, applied, change_call, take_back_call, put_again_call, opened, blank_sheet, open_call}
 use Rattle.sheet.specs.declared.Reply.{Reply}
@@ -21,8 +22,8 @@ use Rattle.sheet.specs.declared.Said.{Said}
 use Rattle.sheet.specs.declared.Said.TheVariants.{Opened}
 use Rattle.sheet.specs.declared.Sheet.{Sheet}
 use Rattle.sheet.proofs.Within.{bounds}
-use Rattle.sheet.proofs.Replying.{answer_no, number_is, applied_accepted, changed_accepted}
-use Rattle.history.specs.History.{Content, History, change, take_back, put_again, made, back, say_back, start, accept, refuse, faults_of, decide, reckon}
+use Rattle.sheet.proofs.Replying.{answer_no, answer_yes, applied_accepted, changed_accepted}
+use Rattle.history.specs.History.{Content, History, change, take_back, put_again, made, start, accept, refuse, faults_of, decide, reckon}
 use Rattle.history.specs.Runs.{content_of, standing_of, taken_of, perform, Exchange, requested, asked, Run, after, Faithful}
 use Rattle.history.specs.Demand3.{Came, Demand3, NeverMore, AlphabetStays, RefusedStays, BackAndAgain, ChangeAndBack}
 use Rattle.history.specs.Openings.{BlankToo, OpensAnew}
@@ -93,7 +94,7 @@ alphabet_stays x l xs s c =
 
 -- A refused call leaves the sheet handed in.
 stays : (fs : List (ℕ × Bool)) (s : Sheet) (r : Reply) → number_of r.said ≡ 0 → (number_of (answered fs s r).said ≡ 0 → ⊥) → (answered fs s r).sheet ≡ s
-stays fs s r z n = ap (λ (a : Reply). a.sheet) (answer_no fs s r (first_fault fs) refl (λ e. n (number_is fs s r z ∙ e)))
+stays fs s r z n = ap (λ (a : Reply). a.sheet) (answer_no fs s r (first_fault fs) refl (λ e. n (ap (λ (a : Reply). number_of a.said) (answer_yes fs s r (sym e)) ∙ z)))
 
 pub refused_stays : RefusedStays
 refused_stays s (change e) = stays _ s _ (changed_accepted s e)
@@ -113,7 +114,7 @@ opens_anew x l = go (eqb k 0)
     k = first_fault (opening_faults x l)
 
     reply : Bool → Reply
-    reply b = cond b (record { sheet = opened x l; said = Opened (size x) }) (refusing blank_sheet k)
+    reply b = cond b (record { sheet = opened x l; said = Ok (Opened (size x)) }) (refusing blank_sheet k)
 
     go : (b : Bool) → (standing_of (reply b).sheet ≡ []) × (taken_of (reply b).sheet ≡ [])
     go true = (refl, refl)
@@ -141,14 +142,6 @@ pub back_and_again : BackAndAgain
 back_and_again x l xs s c =
     restored (record { text = x; limits = l }) s s.standing s.taken (came_ends x l xs s c).invariant
 
--- What is said of an edit is no refusal.
-says_none : (e : Edit) (was is : Content) (k : ℕ) → number_of (say_back e was is k) ≡ 0
-says_none (EditLetter p b) was is k = refl
-says_none (EditKind k d) was is n = refl
-says_none (EditLengths m g) was is k = refl
-says_none (EditPutIn p b) was is k = refl
-says_none (EditTakeOut p) was is k = refl
-
 -- A change that the history says 0 of is accepted.
 decide_accepts : (h : History) (e : Edit) → number_of (decide h e).1 ≡ 0 → decide h e ≡ accept h e
 decide_accepts h e = go (eqb (first_fault (faults_of h e)) 0) refl
@@ -156,7 +149,7 @@ decide_accepts h e = go (eqb (first_fault (faults_of h e)) 0) refl
     go : (b : Bool) → eqb (first_fault (faults_of h e)) 0 ≡ b → number_of (cond b (accept h e) (refuse h (first_fault (faults_of h e)))).1 ≡ 0
         → cond b (accept h e) (refuse h (first_fault (faults_of h e))) ≡ accept h e
     go true q z = refl
-    go false q z = absurd (eqb-false _ _ q z)
+    go false q z = absurd (not_zero _ z)
 
 -- A change and take-back, of whatever kind.
 module _ {o : Content} {s : Sheet} (S : Invariant o s) (e : Edit) where
@@ -169,14 +162,14 @@ module _ {o : Content} {s : Sheet} (S : Invariant o s) (e : Edit) where
       let h : History = history_of o s in
       let A = step S (change e) in
       let B = step A.0 take_back in
-      let n : number_of (decide h e).1 ≡ 0 = ap (λ (y : History × Said). number_of y.1) A.1 ∙ z in
-      let a : history_of o (change_call s e).sheet ≡ (accept h e).0 = ap (λ (y : History × Said). y.0) (sym A.1 ∙ decide_accepts h e n) in
+      let n : number_of (decide h e).1 ≡ 0 = ap (λ (y : History × Result Said Refusal). number_of y.1) A.1 ∙ z in
+      let a : history_of o (change_call s e).sheet ≡ (accept h e).0 = ap (λ (y : History × Result Said Refusal). y.0) (sym A.1 ∙ decide_accepts h e n) in
       let b : (history_of o again.sheet, again.said) ≡ reckon (accept h e).0 take_back = sym B.1 ∙ ap (λ (y : History). reckon y take_back) a in
-      let t : standing_of again.sheet ≡ standing_of s = ap (λ (y : History × Said). y.0.standing) b in (
-        ap (λ (y : History × Said). number_of y.1) b ∙ says_none (back (made o (standing_of s)) e) _ _ _,
+      let t : standing_of again.sheet ≡ standing_of s = ap (λ (y : History × Result Said Refusal). y.0.standing) b in (
+        ap (λ (y : History × Result Said Refusal). number_of y.1) b,
         content_is B.0.holds ∙ ap (made o) t ∙ sym (content_is S.holds),
         t,
-        ap (λ (y : History × Said). y.0.taken) b,
+        ap (λ (y : History × Result Said Refusal). y.0.taken) b,
       )
 
 pub change_and_back : ChangeAndBack

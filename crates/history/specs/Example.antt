@@ -1,12 +1,14 @@
 -- The document's example (01, "The call program"): TACCATG with the plain map, kind 1, m 2, g 2, d 0, and the six calls on its sheet. Its two questions are run and compared.
-use Rattle.std.specs.Prelude.{◌≡◌, List, [], ◌∷◌}
+use Rattle.std.specs.Prelude.{◌≡◌, List, [], ◌∷◌, Result, Ok, Err}
 use Rattle.terms.specs.Maps.{plain_map}
 use Rattle.terms.specs.Texts.{Text, text_all}
 use Rattle.terms.specs.declared.limits.Limits.{Limits}
+use Rattle.terms.specs.declared.refusal.Refusal.{Refusal}
+use Rattle.terms.specs.declared.refusal.Refusal.TheVariants.{NoneStands, NoSuchPlace}
 use Rattle.changes.specs.declared.Edit.TheVariants.{Letter}
 use Rattle.sheet.specs.Calls.{open_call}
 use Rattle.sheet.specs.declared.Said.{Said}
-use Rattle.sheet.specs.declared.Said.TheVariants.{Letter as SaidLetter, Opened, No}
+use Rattle.sheet.specs.declared.Said.TheVariants.{Letter as SaidLetter, Opened}
 use Rattle.sheet.specs.declared.Sheet.{Sheet}
 use Rattle.history.specs.History.{change, take_back, put_again}
 use Rattle.history.specs.Runs.{Exchange, requested, Run}
@@ -19,10 +21,10 @@ example_limits = record { kind = 1; m = 2; g = 2; d = 0 }
 
 -- The opening is accepted.
 abbrev pub ExampleOpens : Type 0
-ExampleOpens = (open_call example_text example_limits).said ≡ Opened 7
+ExampleOpens = (open_call example_text example_limits).said ≡ Ok (Opened 7)
 
 -- T at place 6, take-back, put-again, take-back, take-back once too often, T at a place past the end; with what is said to each.
-abbrev pub example_calls : Said → Said → Said → Said → Said → Said → List Exchange
+abbrev pub example_calls : (a b c d e f : Result Said Refusal) → List Exchange
 example_calls a b c d e f =
     requested (change (Letter 6 84)) a
     ∷ requested take_back b
@@ -35,11 +37,11 @@ example_calls a b c d e f =
 -- Every run of these calls says place, letter replaced, letter now there and number standing, four times; then refusals 8 and 6.
 abbrev pub ExampleRuns : Type 0
 ExampleRuns =
-    (a b c d e f : Said) (s : Sheet)
+    (a b c d e f : Result Said Refusal) (s : Sheet)
     → Run (open_call example_text example_limits).sheet (example_calls a b c d e f) s
-    → (a ≡ SaidLetter 6 71 84 1)
-    × (b ≡ SaidLetter 6 84 71 0)
-    × (c ≡ SaidLetter 6 71 84 1)
-    × (d ≡ SaidLetter 6 84 71 0)
-    × (e ≡ No 8)
-    × (f ≡ No 6)
+    → (a ≡ Ok (SaidLetter 6 71 84 1))
+    × (b ≡ Ok (SaidLetter 6 84 71 0))
+    × (c ≡ Ok (SaidLetter 6 71 84 1))
+    × (d ≡ Ok (SaidLetter 6 84 71 0))
+    × (e ≡ Err NoneStands)
+    × (f ≡ Err NoSuchPlace)

@@ -1,16 +1,17 @@
 -- The history of a sheet (01, "The sheet"): reckoned from the calls made since the opening, by the rules there, and not read off the sheet.
-use Rattle.std.specs.Prelude.{Bool, cond, List, [], ◌∷◌, ◌++◌, ℕ, eqb, leb, get_or, set, length}
+use Rattle.std.specs.Prelude.{Bool, cond, List, [], ◌∷◌, ◌++◌, ℕ, eqb, leb, get_or, set, length, Result, Ok, Err}
 use Rattle.terms.specs.Sizes.{most_changes}
-use Rattle.terms.specs.Refusals.{first_fault}
+use Rattle.terms.specs.Refusals.{refusal_of, first_fault}
 use Rattle.terms.specs.Limits.{with_kind, with_lengths}
 use Rattle.terms.specs.Texts.{Text, text, size}
 use Rattle.terms.specs.declared.limits.Limits.{Limits}
+use Rattle.terms.specs.declared.refusal.Refusal.{Refusal}
 use Rattle.changes.specs.Changes.{edit_faults}
 use Rattle.changes.specs.declared.Edit.{Edit}
 use Rattle.changes.specs.declared.Edit.TheVariants.{Letter as EditLetter, Kind as EditKind, Lengths as EditLengths, PutIn as EditPutIn, TakeOut as EditTakeOut}
 use Rattle.shifts.specs.Shifts.{put_in, take_out}
 use Rattle.sheet.specs.declared.Said.{Said}
-use Rattle.sheet.specs.declared.Said.TheVariants.{Letter as SaidLetter, Kind as SaidKind, Lengths as SaidLengths, PutIn as SaidPutIn, TakeOut as SaidTakeOut, No}
+use Rattle.sheet.specs.declared.Said.TheVariants.{Letter as SaidLetter, Kind as SaidKind, Lengths as SaidLengths, PutIn as SaidPutIn, TakeOut as SaidTakeOut}
 
 -- What a question is asked of: letters with their map and alphabet, and limits.
 pub record Content : Type 0 where
@@ -67,15 +68,15 @@ pub data Request : Type 0 where
   take_back put_again : Request
 
 -- From a history to the next by the edit e: what is said compares the two.
-abbrev pub moved : History → Edit → History → History × Said
-moved h e h' = (h', say_back e (current h) (current h') (length h'.standing))
+abbrev pub moved : History → Edit → History → History × Result Said Refusal
+moved h e h' = (h', Ok (say_back e (current h) (current h') (length h'.standing)))
 
 -- Refused: the history stays.
-abbrev pub refuse : History → ℕ → History × Said
-refuse h k = (h, No k)
+abbrev pub refuse : History → ℕ → History × Result Said Refusal
+refuse h k = (h, Err (refusal_of k))
 
 -- An accepted change joins the standing list as its newest, and empties the taken-back list.
-abbrev pub accept : History → Edit → History × Said
+abbrev pub accept : History → Edit → History × Result Said Refusal
 accept h e = moved h e (record { opening = h.opening; standing = e ∷ h.standing; taken = [] })
 
 -- 64 changes stand.
@@ -86,21 +87,21 @@ full h = leb most_changes (length h.standing)
 abbrev pub faults_of : History → Edit → List (ℕ × Bool)
 faults_of h e = edit_faults (size (current h).text) (current h).text.alphabet e ++ (7, full h) ∷ []
 
-abbrev pub decide : History → Edit → History × Said
+abbrev pub decide : History → Edit → History × Result Said Refusal
 decide h e = cond (eqb (first_fault (faults_of h e)) 0) (accept h e) (refuse h (first_fault (faults_of h e)))
 
 -- Take-back moves the newest standing change over and restores what it replaced; 8 where there is none.
-abbrev pub back_from : History → List Edit → History × Said
+abbrev pub back_from : History → List Edit → History × Result Said Refusal
 back_from h [] = refuse h 8
 back_from h (e ∷ es) = moved h (back (made h.opening es) e) (record { opening = h.opening; standing = es; taken = e ∷ h.taken })
 
 -- Put-again moves back the one taken back last, and makes it; 9 where there is none.
-abbrev pub again_from : History → List Edit → History × Said
+abbrev pub again_from : History → List Edit → History × Result Said Refusal
 again_from h [] = refuse h 9
 again_from h (e ∷ es) = moved h e (record { opening = h.opening; standing = e ∷ h.standing; taken = es })
 
 -- What a request makes of the history, and what is said back.
-abbrev pub reckon : History → Request → History × Said
+abbrev pub reckon : History → Request → History × Result Said Refusal
 reckon h (change e) = decide h e
 reckon h take_back = back_from h h.standing
 reckon h put_again = again_from h h.taken

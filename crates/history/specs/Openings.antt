@@ -4,8 +4,7 @@ use Rattle.terms.specs.Refusals.{OneOf}
 use Rattle.terms.specs.Maps.{plain_map}
 use Rattle.terms.specs.Texts.{Text, text_all}
 use Rattle.terms.specs.declared.limits.Limits.{Limits}
-use Rattle.questions.specs.Tiling.{TilingReply}
-use Rattle.questions.specs.declared.Answer.{Answer}
+use Rattle.questions.specs.Tiling.{Answer, number_in, TilingReply}
 use Rattle.sheet.specs.Calls.{number_of, open_call}
 use Rattle.history.specs.Runs.{standing_of, taken_of}
 
@@ -27,5 +26,5 @@ abbrev pub OpensAsAsked : Type 0
 OpensAsAsked =
     (x : Text) (l : Limits) (t t' room room' : List ℕ) (r : Answer)
     → TilingReply x l t t' room room' r
-    → ((number_of (open_call x l).said ≡ 0 → ⊥) → r.number ≡ number_of (open_call x l).said)
-    × (number_of (open_call x l).said ≡ 0 → OneOf r.number (0 ∷ 11 ∷ 10 ∷ 12 ∷ []))
+    → ((number_of (open_call x l).said ≡ 0 → ⊥) → number_in r ≡ number_of (open_call x l).said)
+    × (number_of (open_call x l).said ≡ 0 → OneOf (number_in r) (0 ∷ 11 ∷ 10 ∷ 12 ∷ []))

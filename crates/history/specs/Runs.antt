@@ -1,11 +1,11 @@
 -- Runs of calls on a sheet, questions and refused calls included; and what the history says of them.
-use Rattle.std.specs.Prelude.{◌≡◌, List, [], ◌∷◌, ℕ, zero, suc}
+use Rattle.std.specs.Prelude.{◌≡◌, List, [], ◌∷◌, ℕ, zero, suc, Result}
+use Rattle.terms.specs.declared.refusal.Refusal.{Refusal}
 use Rattle.changes.specs.Changes.{done_of}
+use Rattle.changes.specs.declared.Change.{Change}
 use Rattle.changes.specs.declared.Edit.{Edit}
 use Rattle.kept.specs.Lists.{kept_at}
-use Rattle.kept.specs.declared.Kept.{Kept}
-use Rattle.questions.specs.Tiling.{TilingReply}
-use Rattle.questions.specs.declared.Answer.{Answer}
+use Rattle.questions.specs.Tiling.{Answer, TilingReply}
 use Rattle.sheet.specs.Bounds.{text_of}
 use Rattle.sheet.specs.Calls.{number_of, change_call, take_back_call, put_again_call, open_call}
 use Rattle.sheet.specs.Question.{SheetReply}
@@ -19,11 +19,11 @@ abbrev pub content_of : Sheet → Content
 content_of s = record { text = text_of s; limits = s.limits }
 
 -- A sheet's two lists, read off as lists: what its standing changes did, the newest first; what those taken back did, the next to put again first.
-abbrev pub standing_from : List Kept → ℕ → List Edit
+abbrev pub standing_from : List Change → ℕ → List Edit
 standing_from ks zero = []
 standing_from ks (suc k) = done_of (kept_at ks k) ∷ standing_from ks k
 
-abbrev pub taken_from : List Kept → ℕ → ℕ → List Edit
+abbrev pub taken_from : List Change → ℕ → ℕ → List Edit
 taken_from ks i zero = []
 taken_from ks i (suc t) = done_of (kept_at ks i) ∷ taken_from ks (suc i) t
 
@@ -41,7 +41,7 @@ perform s put_again = put_again_call s
 
 -- A call with its answer: a request with what is said; a tiling question with table and room as lent, table and room as left, and the reply.
 pub data Exchange : Type 0 where
-  requested : Request → Said → Exchange
+  requested : Request → Result Said Refusal → Exchange
   asked : List ℕ → List ℕ → List ℕ → List ℕ → Answer → Exchange
 
 -- A run of calls on the sheet s, with what each was answered, ends with the sheet s'.

@@ -1,4 +1,3 @@
 pub mod Reading
-pub mod Lending
 pub mod Stepping
 pub mod Showing

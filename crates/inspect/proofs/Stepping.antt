@@ -15,9 +15,6 @@ module _ (room : List ℕ) (at : ℕ) (piece : List ℕ) (from : ℕ) (room' : L
   fed : Feeds (take at room) piece from room' r
   fed = f (take at room) (kept_self room at h)
 
-  pub kept_in : r.at ≤ length room'
-  kept_in = omega (arith, fed.kept.many)
-
   pub goes_on : from < length piece → (from < r.from) × (r.from ≤ length piece)
   goes_on inside =
       let bs : List ℕ = drop from piece in

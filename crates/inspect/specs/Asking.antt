@@ -1,41 +1,36 @@
 -- What a line that is read asks for: places in the line, and slices no longer than four digits can name. Working notions: no promise to a caller rests on reading them.
-use Rattle.std.specs.Prelude.{List, ℕ, ◌≤◌, length}
+use Rattle.std.specs.Prelude.{List, ℕ, ◌≤◌, length, Option, Some, None}
+use Rattle.inspect.specs.declared.asks.TilingAsk.{TilingAsk}
+use Rattle.inspect.specs.declared.asks.CentresAsk.{CentresAsk}
 use Rattle.inspect.specs.declared.asks.Ask.{Ask}
-use Rattle.inspect.specs.declared.asks.Ask.TheVariants.{Tiling, Centres, Longest, Longer, Centre, Shuffled, Unknown}
-use Rattle.inspect.specs.declared.named.Letter.{Letter}
-use Rattle.inspect.specs.declared.named.Letter.TheVariants.{Is as LetterIs, Not as NoLetter}
-use Rattle.inspect.specs.declared.named.Named.{Named}
-use Rattle.inspect.specs.declared.named.Named.TheVariants.{Is, Not}
-use Rattle.inspect.specs.declared.named.Spelt.{Spelt}
-use Rattle.inspect.specs.declared.named.Spelt.TheVariants.{Is as SpeltIs, Not as NotSpelt}
-use Rattle.inspect.specs.declared.named.Chosen.{Chosen}
-use Rattle.inspect.specs.declared.named.Chosen.TheVariants.{Are, Not as NotChosen}
+use Rattle.inspect.specs.declared.asks.Ask.TheVariants.{Tiling, OnSheet, Centres, Longest, Longer, Centre, Shuffled}
 
--- The place after a letter is at most a given one.
-abbrev pub Follows : ℕ → Letter → Type 0
-Follows most (LetterIs byte next) = next ≤ most
-Follows most NoLetter = Unit {0}
+-- The place after a space is at most a given one.
+abbrev pub Begins : ℕ → Option ℕ → Type 0
+Begins most (Some next) = next ≤ most
+Begins most None = Unit {0}
 
--- The same after a map's letter.
-abbrev pub Behind : ℕ → Named → Type 0
-Behind most (Is map next) = next ≤ most
-Behind most Not = Unit {0}
+-- The same of the place after a letter: a map's, an alphabet's, or both.
+abbrev pub Follows : {A : Type 0} → ℕ → Option (A × ℕ) → Type 0
+Follows most (Some named) = named.1 ≤ most
+Follows most None = Unit {0}
 
--- After an alphabet's letter, and after both.
-abbrev pub Beyond : ℕ → Spelt → Type 0
-Beyond most (SpeltIs alphabet next) = next ≤ most
-Beyond most NotSpelt = Unit {0}
+-- The string stands in the line, and four digits name the slices' lengths.
+abbrev pub TilingFits : List ℕ → Option TilingAsk → Type 0
+TilingFits xs (Some a) = (a.table ≤ 9999) × (a.room ≤ 9999) × (a.from ≤ length xs)
+TilingFits xs None = Unit {0}
 
-abbrev pub Past : ℕ → Chosen → Type 0
-Past most (Are letters next) = next ≤ most
-Past most NotChosen = Unit {0}
+abbrev pub CentresFit : List ℕ → Option CentresAsk → Type 0
+CentresFit xs (Some a) = (a.number ≤ 9999) × (a.from ≤ length xs)
+CentresFit xs None = Unit {0}
 
--- The string stands in the line, the first of two strings too, and four digits name the slices' lengths.
-abbrev pub Fits : List ℕ → Ask → Type 0
-Fits xs (Tiling sheet limits letters table room from) = (table ≤ 9999) × (room ≤ 9999) × (from ≤ length xs)
-Fits xs (Centres d letters entries from) = (entries ≤ 9999) × (from ≤ length xs)
-Fits xs (Longest map from) = from ≤ length xs
-Fits xs (Longer map from second) = (from ≤ second) × (second ≤ length xs)
-Fits xs (Centre d letters centre from) = from ≤ length xs
-Fits xs (Shuffled entries from) = (entries ≤ 9999) × (from ≤ length xs)
-Fits xs Unknown = Unit {0}
+-- The same of every line; of two strings the first stands in the line too.
+abbrev pub Fits : List ℕ → Option Ask → Type 0
+Fits xs (Some (Tiling a)) = TilingFits xs (Some a)
+Fits xs (Some (OnSheet a)) = TilingFits xs (Some a)
+Fits xs (Some (Centres a)) = CentresFit xs (Some a)
+Fits xs (Some (Longest map from)) = from ≤ length xs
+Fits xs (Some (Longer map from second)) = (from ≤ second) × (second ≤ length xs)
+Fits xs (Some (Centre a)) = CentresFit xs (Some a)
+Fits xs (Some (Shuffled entries from)) = (entries ≤ 9999) × (from ≤ length xs)
+Fits xs None = Unit {0}

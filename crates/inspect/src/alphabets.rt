@@ -1,7 +1,9 @@
 // The alphabets that a line can name: all bytes, letters of strands, and some that are refused.
-ghost use Rattle.std.specs.Prelude.{◌≡◌, ◌≤◌};
-ghost use Rattle.inspect.specs.Lending.{no_byte, three_bases, four_bases, bases_and_n, flag_bytes, flag_count};
+ghost use Rattle.std.specs.Prelude.{◌≡◌};
+ghost use Rattle.inspect.specs.Lending.{no_byte, three_bases, four_bases, bases_and_n, NamesAlphabet, LendsFlags};
 
+use crate::lent::Lent;
+use crate::named::Unnamed;
 use terms::alphabets::all;
 
 // An alphabet by its name in a line.
@@ -15,6 +17,26 @@ pub enum Alphabet {
     Empty,
 }
 
+// The alphabet that a letter names.
+impl TryFrom<u8> for Alphabet {
+    type Error = Unnamed;
+
+    ghost try_from_gives = { NamesAlphabet };
+
+    fn try_from(letter: u8) -> Result<Alphabet, Unnamed> {
+        match letter {
+            b'*' => Ok(Alphabet::All),
+            b'D' => Ok(Alphabet::Bases),
+            b'N' => Ok(Alphabet::BasesAndN),
+            b'O' => Ok(Alphabet::Open),
+            b'S' => Ok(Alphabet::Short),
+            b'E' => Ok(Alphabet::Empty),
+            _ => Err(Unnamed),
+        }
+    }
+}
+
+#[tactic(auto, unfolding(crate::specs::Lending::no_byte))]
 fn no_byte() -> [u8; 256]
     ensures { result ≡ no_byte }
 {
@@ -22,6 +44,7 @@ fn no_byte() -> [u8; 256]
 }
 
 // A, C and G: not closed under the complement.
+#[tactic(auto, unfolding(crate::specs::Lending::three_bases))]
 fn three_bases() -> [u8; 256]
     ensures { result ≡ three_bases }
 {
@@ -32,6 +55,7 @@ fn three_bases() -> [u8; 256]
     flags
 }
 
+#[tactic(auto, unfolding(crate::specs::Lending::four_bases))]
 fn four_bases() -> [u8; 256]
     ensures { result ≡ four_bases }
 {
@@ -41,6 +65,7 @@ fn four_bases() -> [u8; 256]
 }
 
 // A, C, G, T and N, its own partner. Any byte but 0 says that a letter is in.
+#[tactic(auto, unfolding(crate::specs::Lending::bases_and_n))]
 fn bases_and_n() -> [u8; 256]
     ensures { result ≡ bases_and_n }
 {
@@ -49,29 +74,36 @@ fn bases_and_n() -> [u8; 256]
     flags
 }
 
-pub fn flags_of(alphabet: Alphabet) -> [u8; 256]
-    ensures { result ≡ flag_bytes alphabet }
-{
-    match alphabet {
-        Alphabet::All => all(),
-        Alphabet::Bases => four_bases(),
-        Alphabet::BasesAndN => bases_and_n(),
-        Alphabet::Open => three_bases(),
-        Alphabet::Short => all(),
-        Alphabet::Empty => no_byte(),
-    }
-}
-
-// How many flags are lent: short flags lack one.
-pub fn count_of(alphabet: Alphabet) -> usize
-    ensures { (result ≡ flag_count alphabet) × (result ≤ 256) }
-{
-    match alphabet {
-        Alphabet::All => 256,
-        Alphabet::Bases => 256,
-        Alphabet::BasesAndN => 256,
-        Alphabet::Open => 256,
-        Alphabet::Short => 255,
-        Alphabet::Empty => 256,
+impl Alphabet {
+    // Its flags, of which short ones lack one.
+    pub fn lent(self) -> Lent
+        ensures { LendsFlags self result }
+    {
+        match self {
+            Alphabet::All => Lent {
+                bytes: all(),
+                size: 256,
+            },
+            Alphabet::Bases => Lent {
+                bytes: four_bases(),
+                size: 256,
+            },
+            Alphabet::BasesAndN => Lent {
+                bytes: bases_and_n(),
+                size: 256,
+            },
+            Alphabet::Open => Lent {
+                bytes: three_bases(),
+                size: 256,
+            },
+            Alphabet::Short => Lent {
+                bytes: all(),
+                size: 255,
+            },
+            Alphabet::Empty => Lent {
+                bytes: no_byte(),
+                size: 256,
+            },
+        }
     }
 }

@@ -3,38 +3,41 @@ ghost use Rattle.std.specs.Prelude.{◌≤◌, length};
 ghost use Rattle.printing.specs.Printing.{Put};
 ghost use Rattle.inspect.specs.Showing.{step_text};
 
-use crate::alphabets::{count_of, flags_of};
-use crate::maps::{bytes_of, size_of};
-use crate::named::{Chosen, Letters, both_after};
+use crate::lent::text_with;
+use crate::named::{Letters, both_after, space_after};
+use crate::shows::number_of;
 use hexadecimal::read_hex;
-use lines::fields::{four_after, number_after, stands};
-use lines::{BYTES, Four, Number};
-use printing::put_line;
-use reader::Stepped;
+use lines::BYTES;
+use lines::fields::{four_after, number_after};
+use printing::Page;
+use reader::Record;
 use replies::put_refusal;
 use returned::agree;
 use terms::limits::Limits;
+use terms::refusal::Refusal;
 
 // The reader's answer: a part's values, or its number alone.
-fn put_step(out: &mut [u8], found: Stepped) -> usize
+fn put_step(out: &mut [u8], found: Result<Option<(Record, usize)>, Refusal>) -> usize
     ensures { Put out.old 0 (step_text found) result out.new }
 {
+    let mut page = Page { room: out, at: 0 };
     match found {
-        Stepped::Part(part, next) => {
+        Ok(Some((part, next))) => {
             let tag = part.tag as usize;
             let errors = part.errors as usize;
             let numbers = [0, tag, errors, part.start, part.length, next];
-            put_line(out, 0, b'F', &numbers)
+            page.put_line(b'F', &numbers)
         }
-        Stepped::Finished => {
+        Ok(None) => {
             let numbers = [0];
-            put_line(out, 0, b'F', &numbers)
+            page.put_line(b'F', &numbers)
         }
-        Stepped::Refused(number) => {
-            let numbers = [number];
-            put_line(out, 0, b'F', &numbers)
+        Err(refusal) => {
+            let numbers = [refusal.number()];
+            page.put_line(b'F', &numbers)
         }
     }
+    page.at
 }
 
 // What a line about a file asks; the file begins at a place of the line.
@@ -49,53 +52,37 @@ enum FileAsk {
         letters: Letters,
         from: usize,
     },
-    Unknown,
 }
 
 // `F place file`
-fn step_line(s: &[u8]) -> FileAsk {
-    let Number::Is { value: place, next } = number_after(s, 1) else {
-        return FileAsk::Unknown;
-    };
-    if !stands(s, next, 32) {
-        return FileAsk::Unknown;
-    }
-    FileAsk::Step {
-        place,
-        from: next + 1,
-    }
+fn step_line(s: &[u8]) -> Option<FileAsk> {
+    let (place, next) = number_after(s, 1)?;
+    let from = space_after(s, next)?;
+    Some(FileAsk::Step { place, from })
 }
 
 // `Y kind m g d map alphabet file string`
-fn agree_line(s: &[u8]) -> FileAsk {
-    let Four::Are { limits, next: a } = four_after(s, 1) else {
-        return FileAsk::Unknown;
-    };
-    let Chosen::Are { letters, next: b } = both_after(s, a) else {
-        return FileAsk::Unknown;
-    };
-    if !stands(s, b, 32) {
-        return FileAsk::Unknown;
-    }
-    FileAsk::Agree {
+fn agree_line(s: &[u8]) -> Option<FileAsk> {
+    let (limits, a) = four_after(s, 1)?;
+    let (letters, b) = both_after(s, a)?;
+    let from = space_after(s, b)?;
+    Some(FileAsk::Agree {
         limits,
         letters,
-        from: b + 1,
-    }
+        from,
+    })
 }
 
 // One line, without its line end.
-fn file_line(s: &[u8]) -> FileAsk {
+fn file_line(s: &[u8]) -> Option<FileAsk> {
     if BYTES < s.len() {
-        return FileAsk::Unknown;
+        return None;
     }
-    if stands(s, 0, b'F') {
-        return step_line(s);
+    match *s.first()? {
+        b'F' => step_line(s),
+        b'Y' => agree_line(s),
+        _ => None,
     }
-    if stands(s, 0, b'Y') {
-        return agree_line(s);
-    }
-    FileAsk::Unknown
 }
 
 // One step of the reader over the file, which is the rest of the line.
@@ -105,7 +92,7 @@ fn step_from(place: usize, line: &[u8], from: usize, room: &mut [u8], out: &mut 
     let file = read_hex(line, from, room);
     let end = file.bytes;
     if file.next != line.len() {
-        return put_refusal(out, 13);
+        return put_refusal(out, Refusal::NotUnderstood.number());
     }
     put_step(out, reader::read(&room[0..end], place))
 }
@@ -121,42 +108,32 @@ fn agreement(
 ) -> usize
     ensures { result ≤ length out.old }
 {
-    let n = line.len();
     let file = read_hex(line, from, room);
     let end = file.bytes;
-    let space = file.next;
-    if !stands(line, space, 32) {
-        return put_refusal(out, 13);
-    }
-    let string = space + 1;
-    let map = letters.map;
-    let bytes = bytes_of(map);
-    let size = size_of(map);
-    let alphabet = letters.alphabet;
-    let flags = flags_of(alphabet);
-    let count = count_of(alphabet);
-    let numbers = [agree(
-        &line[string..n],
-        &bytes[0..size],
-        limits,
-        &room[0..end],
-        &flags[0..count],
-    )];
-    put_line(out, 0, b'Y', &numbers)
+    let Some(string) = space_after(line, file.next) else {
+        return put_refusal(out, Refusal::NotUnderstood.number());
+    };
+    let (map, alphabet) = letters.lent();
+    let text = text_with(&line[string..], &map, &alphabet);
+    let numbers = [number_of(agree(text, limits, &room[..end]))];
+    let mut page = Page { room: out, at: 0 };
+    page.put_line(b'Y', &numbers);
+    page.at
 }
 
 // A line that asks about a file, or is not understood.
 pub fn answer_file(line: &[u8], room: &mut [u8], out: &mut [u8]) -> usize
     ensures { result ≤ length out.old }
 {
-    let asked = file_line(line);
-    match asked {
-        FileAsk::Step { place, from } => step_from(place, line, from, room, out),
-        FileAsk::Agree {
-            limits,
-            letters,
-            from,
-        } => agreement(limits, letters, line, from, room, out),
-        FileAsk::Unknown => put_refusal(out, 13),
+    match file_line(line) {
+        Some(FileAsk::Step { place, from }) => step_from(place, line, from, room, out),
+        Some(
+            FileAsk::Agree {
+                limits,
+                letters,
+                from,
+            },
+        ) => agreement(limits, letters, line, from, room, out),
+        None => put_refusal(out, Refusal::NotUnderstood.number()),
     }
 }

@@ -5,6 +5,7 @@ mod alphabets;
 mod answers;
 mod asks;
 mod files;
+mod lent;
 mod maps;
 mod named;
 mod shows;
@@ -25,6 +26,14 @@ const LENT: usize = 9999;
 // The room for a reply: 9,999 entries of 6 bytes with their spaces, as many bytes of 4, and a first line fit.
 const REPLY: usize = 131072;
 
+// What a line is answered with: the entries and the bytes that a call is lent, and the room for the reply.
+#[derive(Drop)]
+struct Rooms {
+    table: [u16; LENT],
+    room: [u8; LENT],
+    out: [u8; REPLY],
+}
+
 // After a step: how many bytes are kept of the line, where the piece is read on, and how many bytes of a reply are to be written.
 #[derive(Clone, Copy)]
 struct Stepped {
@@ -33,25 +42,25 @@ struct Stepped {
     written: usize,
 }
 
-// Takes the line on to its end in the piece and answers it there, or keeps what the piece has of it.
-fn step(
-    bytes: &mut [u8],
-    at: usize,
-    piece: &[u8],
-    from: usize,
-    table: &mut [u16],
-    room: &mut [u8],
-    out: &mut [u8],
-) -> Stepped
-    requires place { (at ≤ length bytes.old) × (from < length piece.now) }
-    requires rooms_lent { (9999 ≤ length table.old) × (9999 ≤ length room.old) }
-    ensures { Steps (length bytes.old) (length piece.now) from (length out.old) result }
+impl Rooms {
+    // One line, without its line end: how many bytes of the reply stand at the start of `out`.
+    fn answer(&mut self, line: &[u8]) -> usize
+        ensures { result ≤ REPLY }
+    {
+        answer(line, &mut self.table, &mut self.room, &mut self.out)
+    }
+}
+
+// Takes the line on to its end in the piece and answers it there, or keeps what the piece has of it. `call` says why each program has one.
+fn step(bytes: &mut [u8], at: usize, piece: &[u8], from: usize, rooms: &mut Rooms) -> Stepped
+    requires { (at ≤ length bytes.old) × (from < length piece.now) }
+    ensures { Steps (length bytes.old) (length piece.now) from REPLY result }
 {
     let fed = feed(bytes, at, piece, from);
     let kept = fed.at;
     let next = fed.from;
     if fed.whole {
-        let written = answer(&bytes[0..kept], table, room, out);
+        let written = rooms.answer(&bytes[..kept]);
         return Stepped {
             at: 0,
             from: next,
@@ -70,13 +79,10 @@ fn answer_piece(
     bytes: &mut [u8],
     at: usize,
     piece: &[u8],
-    table: &mut [u16],
-    room: &mut [u8],
-    out: &mut [u8],
-    rt: &HostRuntime,
+    rooms: &mut Rooms,
+    rt: &impl Print,
 ) -> usize
-    requires place { at ≤ length bytes.old }
-    requires rooms_lent { (9999 ≤ length table.old) × (9999 ≤ length room.old) }
+    requires { at ≤ length bytes.old }
     ensures { result ≤ length bytes.old }
 {
     let mut s = Stepped {
@@ -84,10 +90,10 @@ fn answer_piece(
         from: 0,
         written: 0,
     };
+    // No `for`: each step says where the piece is read on.
     while s.from < piece.len() {
-        s = step(bytes, s.at, piece, s.from, table, room, out);
-        let n = s.written;
-        rt.write_all(&out[0..n]).ok();
+        s = step(bytes, s.at, piece, s.from, rooms);
+        rt.write_all(&rooms.out[..s.written]).ok();
     }
     s.at
 }
@@ -96,29 +102,22 @@ fn answer_piece(
 fn main(rt: HostRuntime) {
     let mut bytes = [0u8; LINE];
     let mut piece = [0u8; 65536];
-    let mut table = [0u16; LENT];
-    let mut room = [0u8; LENT];
-    let mut out = [0u8; REPLY];
+    let mut rooms = Rooms {
+        table: [0; LENT],
+        room: [0; LENT],
+        out: [0; REPLY],
+    };
     let mut at: usize = 0;
-    let mut more = true;
     let mut input = rt.stdin();
-    let mut reads = u64::MAX;
-    while 0 < reads && more {
-        reads -= 1;
+    for _ in 0..u64::MAX {
         let n = input.read(&mut piece).unwrap_or(0);
-        more = 0 < n;
-        at = answer_piece(
-            &mut bytes,
-            at,
-            &piece[0..n],
-            &mut table,
-            &mut room,
-            &mut out,
-            &rt,
-        );
+        if n == 0 {
+            break;
+        }
+        at = answer_piece(&mut bytes, at, &piece[..n], &mut rooms, &rt);
     }
     if 0 < at {
-        let n = answer(&bytes[0..at], &mut table, &mut room, &mut out);
-        rt.write_all(&out[0..n]).ok();
+        let n = rooms.answer(&bytes[..at]);
+        rt.write_all(&rooms.out[..n]).ok();
     }
 }

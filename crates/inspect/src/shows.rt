@@ -1,69 +1,94 @@
 // What a call answered and left in the lent slices, printed into a lent room.
+ghost use Rattle.std.specs.Prelude.{◌≡◌, ℕ, List};
+ghost use Rattle.terms.specs.Refusals.{fault_of};
 ghost use Rattle.printing.specs.Printing.{printed, Put};
-ghost use Rattle.inspect.specs.Showing.{tiling_text, filled_text, stop_text, part_text};
+ghost use Rattle.printing.specs.Pages.{PutOn};
+ghost use Rattle.inspect.specs.Showing.{Numbers, answer_values, tiling_text, filled_text, stop_text, part_text};
 
-use printing::{put_byte, put_field, put_line};
-use questions::Answer;
-use stops::{CentreStop, figures};
+use printing::Page;
+use questions::{Figures, Untiled};
+use spans::outward::Reach;
+use stops::figures;
+use terms::refusal::Refusal;
 
-// `E` and all entries of a slice.
-fn put_entries(out: &mut [u8], at: usize, entries: &[u16]) -> usize
-    ensures { Put out.old at (printed 69 entries.now) result out.new }
+// A letter, all items of a slice as numbers, and a line end.
+fn put_items<T: Copy + Into<usize>>(page: &mut Page<'_>, letter: u8, items: &[T])
+    ensures { (numbers : List ℕ) × Numbers T.converts items.now numbers × PutOn page.old (printed letter numbers) page.new }
 {
-    let mut end = put_byte(out, at, b'E');
-    let mut i = 0;
-    while i < entries.len() {
-        end = put_field(out, end, entries[i] as usize);
-        i += 1;
+    page.put_byte(letter);
+    for item in items {
+        page.put_field((*item).into());
     }
-    put_byte(out, end, 10)
+    page.put_byte(b'\n');
 }
 
-// `R` and all bytes of a slice.
-fn put_room(out: &mut [u8], at: usize, room: &[u8]) -> usize
-    ensures { Put out.old at (printed 82 room.now) result out.new }
+// The number of what is refused, 0 where nothing is.
+pub fn number_of(checked: Result<(), Refusal>) -> usize
+    ensures { result ≡ fault_of checked }
 {
-    let mut end = put_byte(out, at, b'R');
-    let mut i = 0;
-    while i < room.len() {
-        end = put_field(out, end, room[i] as usize);
-        i += 1;
+    match checked {
+        Ok(()) => 0,
+        Err(refusal) => refusal.number(),
     }
-    put_byte(out, end, 10)
+}
+
+// The numbers of an answer: 0 and the figures, or a refusal's number and zeros; 12 also has the parts needed.
+fn values_of(answer: Result<Figures, Untiled>) -> [usize; 4]
+    ensures { result ≡ answer_values answer }
+{
+    match answer {
+        Ok(found) => [0, found.total, found.parts, found.gaps],
+        Err(Untiled::Refused(refusal)) => [refusal.number(), 0, 0, 0],
+        Err(Untiled::ShortRoom { parts }) => [Refusal::RoomTooShort.number(), 0, parts, 0],
+    }
 }
 
 // The tiling question's answer, and what it left in the table and in the room.
-pub fn put_tiling(out: &mut [u8], letter: u8, answer: Answer, table: &[u16], room: &[u8]) -> usize
+pub fn put_tiling(
+    out: &mut [u8],
+    letter: u8,
+    answer: Result<Figures, Untiled>,
+    table: &[u16],
+    room: &[u8],
+) -> usize
     ensures { Put out.old 0 (tiling_text letter answer table.now room.now) result out.new }
 {
-    let numbers = [answer.number, answer.total, answer.parts, answer.gaps];
-    let first = put_line(out, 0, letter, &numbers);
-    let second = put_entries(out, first, table);
-    put_room(out, second, room)
+    let numbers = values_of(answer);
+    let mut page = Page { room: out, at: 0 };
+    page.put_line(letter, &numbers);
+    put_items(&mut page, b'E', table);
+    put_items(&mut page, b'R', room);
+    page.at
 }
 
 // The numbers that a fill answered, and what it left in the entries.
 pub fn put_filled(out: &mut [u8], letter: u8, numbers: &[usize], entries: &[u16]) -> usize
     ensures { Put out.old 0 (filled_text letter numbers.now entries.now) result out.new }
 {
-    let first = put_line(out, 0, letter, numbers);
-    put_entries(out, first, entries)
+    let mut page = Page { room: out, at: 0 };
+    page.put_line(letter, numbers);
+    put_items(&mut page, b'E', entries);
+    page.at
 }
 
 // What is answered of one centre, in numbers.
-pub fn put_stop(out: &mut [u8], found: CentreStop) -> usize
+pub fn put_stop(out: &mut [u8], found: Result<Reach, Refusal>) -> usize
     ensures { Put out.old 0 (stop_text found) result out.new }
 {
     let told = figures(found);
     let numbers = [told.number, told.length, told.case, told.left, told.right];
-    put_line(out, 0, b'D', &numbers)
+    let mut page = Page { room: out, at: 0 };
+    page.put_line(b'D', &numbers);
+    page.at
 }
 
-// A refusal's number or 0, and the part handed over.
+// A refusal's number or 0, as it is printed beside the part's length, and the part handed over.
 pub fn put_part(out: &mut [u8], letter: u8, number: usize, part: &[u8]) -> usize
     ensures { Put out.old 0 (part_text letter number part.now) result out.new }
 {
     let numbers = [number, part.len()];
-    let first = put_line(out, 0, letter, &numbers);
-    put_room(out, first, part)
+    let mut page = Page { room: out, at: 0 };
+    page.put_line(letter, &numbers);
+    put_items(&mut page, b'R', part);
+    page.at
 }

@@ -2,7 +2,7 @@
 use mathlib.Core.Path.{◌≡◌, sym, ap, ap₂, ◌∙◌, subst₂}
 use mathlib.Core.Bool.{Bool, false}
 use mathlib.Core.List.{List}
-use mathlib.Core.Logic.{inl, ⊎_elim}
+use mathlib.Core.Logic.{◌⊎◌, inl, inr, ⊎_elim}
 use Prim.Native.Nat.{ℕ, ◌+◌, ◌-◌, ◌≤◌, ◌<◌}
 use native.Mathlib.Omega.{arith}
 use lib.Dec.{leb, eqb}
@@ -107,13 +107,13 @@ module _ (x : Text) (l : Limits) (file : List ℕ) (at : ℕ) (whole : at + 6 �
             let v : r.length ≡ M = ap (λ (z : Record). z.length) s in
             (ap (λ (z : Record). z.errors) s, omega (arith, q.0), omega (arith, q.1))
 
-    pub gap_errors : (r.errors ≡ 0 → ⊥) → Tells false Rightly
+    no_gap : ((r.errors ≡ 0) × (r.length ≡ 0)) ⊎ (r.errors ≡ 0 → ⊥) → Tells false Rightly
     unfolding Tells
-    gap_errors n w = n (right_gap w).0
+    no_gap (inl p) w = let h = (right_gap w).1 in let z = p.1 in omega arith
+    no_gap (inr n) w = n (right_gap w).0
 
-    pub gap_empty : r.length ≡ 0 → Tells false Rightly
-    unfolding Tells
-    gap_empty z w = let h = (right_gap w).1 in omega arith
+    pub not_gap : (b : Bool) → b ≡ false → ((r.errors ≡ 0) × (r.length ≡ 0)) ⊎ (r.errors ≡ 0 → ⊥) → Tells b Rightly
+    not_gap b e h = rw e (no_gap h)
 
     pub tells_gap : r.errors ≡ 0 → (r.length ≡ 0 → ⊥) → Tells (leb (r.start + r.length) (size x)) Rightly
     tells_gap z some = tells_iff _ _ _ (tells_leb (r.start + r.length) (size x)) (λ h. rightly (gap r.length) (omega arith, h) (cc)) (λ w. (right_gap w).2)

@@ -9,70 +9,65 @@ ghost use Rattle.reader.specs.Reader.{record_bytes};
 ghost use Rattle.judged.specs.Judged.{Right};
 ghost use Rattle.judged.specs.Work.{RightPiece};
 
-use reader::{GAP, PIECE, record_at};
+use reader::{GAP, PIECE, Record, record_at};
 use spans::outward::walk;
 use spans::pairs::count_errors;
 use terms::limits::Limits;
 
-// Whether the len letters from start are a piece with so many errors. For kind 1 no error tells it, for kind 2 the walk of the centre.
-fn right_piece(
-    s: &[u8],
-    map: &[u8],
-    limits: Limits,
-    start: usize,
-    len: usize,
-    errors: u8,
-    own: bool,
-) -> bool
-    requires sound_string { SoundString s.now map.now }
-    requires sound_limits { SoundLimits limits }
-    requires sizes { (start < 65536) × (len < 65536) }
-    ensures { EverySound s.now map.now (Own own) (λ x. Tells result (RightPiece x limits start len errors)) }
-{
-    let kind = limits.kind;
-    let m = limits.m;
-    let d = limits.d;
-    if len < m {
-        return false;
-    }
-    if s.len() < start + len {
-        return false;
-    }
-    let counted = count_errors(s, map, start, len);
-    if counted != errors as usize {
-        return false;
-    }
-    if kind == 1 {
-        return counted == 0;
-    }
-    let found = walk(s, map, d, start + start + len - 1, own);
-    len == found.length as usize
+// What records are judged by: a string with its map, limits, and whether the map has an own-partner letter within the alphabet.
+#[derive(Clone, Copy)]
+pub struct Judge<'a> {
+    pub letters: &'a [u8],
+    pub map: &'a [u8],
+    pub limits: Limits,
+    pub own: bool,
 }
 
-// Whether the six bytes from a place are the record of a part of the string; `own` says whether the map has an own-partner letter within
-// the alphabet.
-pub fn right(s: &[u8], map: &[u8], limits: Limits, file: &[u8], at: usize, own: bool) -> bool
-    requires sound_string { SoundString s.now map.now }
-    requires sound_limits { SoundLimits limits }
-    requires at_in_bounds { at + 6 ≤ length file.now }
-    ensures { EverySound s.now map.now (Own own) (λ x. Tells result (Right x limits (record_bytes file.now at))) }
-{
-    let found = record_at(file, at);
-    let tag = found.tag;
-    let errors = found.errors;
-    let start = found.start;
-    let len = found.length;
-    if tag == PIECE {
-        return right_piece(s, map, limits, start, len, errors, own);
+impl<'a> Judge<'a> {
+    // Whether the letters that a record names are a piece with so many errors. For kind 1 no error tells it, for kind 2 the walk of the centre.
+    fn piece(self, found: Record) -> bool
+        requires sound_string { SoundString self.letters.now self.map.now }
+        requires sound_limits { SoundLimits self.limits }
+        requires sizes { (found.start < 65536) × (found.length < 65536) }
+        ensures { EverySound self.entry.letters.now self.entry.map.now (Own self.entry.own) (λ x. Tells result (RightPiece x self.entry.limits found.start found.length found.errors)) }
+    {
+        let start = found.start;
+        let len = found.length;
+        let limits = self.limits;
+        if len < limits.m || self.letters.len() < start + len {
+            return false;
+        }
+        let counted = count_errors(self.letters, self.map, start, len);
+        if counted != found.errors as usize {
+            return false;
+        }
+        if limits.kind == 1 {
+            return counted == 0;
+        }
+        let reach = walk(
+            self.letters,
+            self.map,
+            limits.d,
+            start + start + len - 1,
+            self.own,
+        );
+        len == reach.length as usize
     }
-    if tag != GAP {
-        return false;
+
+    // Whether the six bytes from a place are the record of a part of the string.
+    pub fn right(self, file: &[u8], at: usize) -> bool
+        requires sound_string { SoundString self.letters.now self.map.now }
+        requires sound_limits { SoundLimits self.limits }
+        requires at_in_bounds { at + 6 ≤ length file.now }
+        ensures { EverySound self.entry.letters.now self.entry.map.now (Own self.entry.own) (λ x. Tells result (Right x self.entry.limits (record_bytes file.now at))) }
+    {
+        let found = record_at(file, at);
+        match found.tag {
+            PIECE => self.piece(found),
+            GAP => found.errors == 0
+                && found.length != 0
+                && found.start + found.length <= self.letters.len(),
+            _ => false,
+        }
     }
-    if errors != 0 {
-        return false;
-    }
-    if len == 0 {
-        return false;
-    }
-    start + len <= s.len()
 }

@@ -1,139 +1,101 @@
--- The one loop that judges the kept changes: back through those that stand, then forth through those taken back. Assumes nothing.
+-- The two loops that judge the kept changes: back through those that stand, then forth through those taken back. Assumes nothing.
 use mathlib.Core.Path.{◌≡◌, refl, sym, ap, ap₂, ◌∙◌}
-use mathlib.Core.Bool.{Bool, true, false, not, cond, ◌&&◌, and_assoc}
-use mathlib.Core.List.{List}
+use mathlib.Core.Bool.{Bool, true, false, ◌&&◌, and_assoc}
+use mathlib.Core.List.{List, [], ◌∷◌, ◌++◌}
 use Prim.Native.Nat.{ℕ, suc, ◌+◌, ◌-◌, ◌≤◌, ◌<◌}
 use native.Mathlib.Numerals.{add-one}
 use native.Mathlib.Omega.{arith}
-use borrow.Author.Tests.{le-leb, lt-leb, leb-true, leb-false, eq-eqb, ne_eqb}
-use lib.Dec.{leb}
+use borrow.Author.Tests.{le-leb}
+use lib.ListN.{length, get_or, take, drop, get_or-append}
+use lib.Seq.{length-take-le, get_or-take, get_or-drop}
+use Rattle.std.proofs.lemmas.List.{length_push, get_or_push}
 use Rattle.changes.specs.Changes.{done_of, back_of, length_by, accepts_then}
 use Rattle.changes.specs.declared.Change.{Change}
 use Rattle.changes.specs.declared.Edit.{Edit}
-use Rattle.kept.specs.Lists.{kept_at, steps_back, steps_forth, can_go, kept_accepted}
-use Rattle.kept.specs.Work.{step_place, step_letters, step_edit}
-use Rattle.kept.specs.declared.Kept.{Kept}
+use Rattle.kept.specs.Lists.{no_change, kept_at, steps_back, steps_forth, can_go, kept_accepted}
 
--- What is left to judge from step i on, where the step before ends with m letters.
-unfoldable pub to_judge : ℕ → List ℕ → List Kept → ℕ → ℕ → ℕ → ℕ → Bool
-to_judge n z ks st tk i m =
-    cond (leb st i) (can_go (step_letters i st n m) z (steps_forth ks i (st + tk - i))) (can_go m z (steps_back ks (st - i)) && can_go n z (steps_forth ks st tk))
+-- What is left to judge on the way back over k changes, where the step before ends with m letters, and the whole way forth.
+abbrev pub left_back : ℕ → List ℕ → List Change → ℕ → ℕ → ℕ → ℕ → Bool
+left_back n z ks st tk m k = can_go m z (steps_back ks k) && can_go n z (steps_forth ks st tk)
 
--- The place of a step is one of the 64.
-pub place_few : (st i : ℕ) → st ≤ 64 → i < 64 → step_place i st < 64
-unfolding step_place
-place_few st i few l = go (leb st i)
-  where
-    go : (b : Bool) → cond b i (st - 1 - i) < 64
-    go true = omega arith
-    go false = omega arith
+-- On the way back the changes still to go over are the first of those kept, and what is left to judge decides.
+pub record Back (n : ℕ) (z : List ℕ) (ks : List Change) (st tk m : ℕ) (rest : List Change) : Type 0 where
+  pub front : (k : ℕ) → k < length rest → get_or rest k no_change ≡ kept_at ks k
+  pub left : kept_accepted n z ks st tk ≡ left_back n z ks st tk m (length rest)
 
-module _ (n : ℕ) (z : List ℕ) (ks : List Kept) (st tk : ℕ) where
-  letters_anew : (i m : ℕ) → i ≡ st → step_letters i st n m ≡ n
-  unfolding step_letters
-  letters_anew i m e = simp (eq-eqb _ _ e)
+-- On the way forth what is left from the i-th of those taken back on decides.
+abbrev pub Forth : ℕ → List ℕ → List Change → ℕ → ℕ → ℕ → ℕ → Type 0
+Forth n z ks st tk m i = kept_accepted n z ks st tk ≡ can_go m z (steps_forth ks (st + i) (tk - i))
 
-  letters_on : (i m : ℕ) → (i ≡ st → ⊥) → step_letters i st n m ≡ m
-  unfolding step_letters
-  letters_on i m e = simp (ne_eqb _ _ e)
+-- The i-th of those taken back.
+pub taken_at : (ks : List Change) (st tk i : ℕ) → i < tk → get_or (take (st + tk - st) (drop st ks)) i no_change ≡ kept_at ks (st + i)
+taken_at ks st tk i h = get_or-take (st + tk - st) (drop st ks) i no_change (omega arith) ∙ get_or-drop st ks i no_change
 
-  -- on the way forth
-  forth_left : (i m : ℕ) → st ≤ i → to_judge n z ks st tk i m ≡ can_go (step_letters i st n m) z (steps_forth ks i (st + tk - i))
-  unfolding to_judge
-  forth_left i m h = simp (le-leb _ _ h)
-
-  -- on the way back, up to its end, where the whole way forth is left
-  back_inside : (i m : ℕ) → i < st → to_judge n z ks st tk i m ≡ (can_go m z (steps_back ks (st - i)) && can_go n z (steps_forth ks st tk))
-  unfolding to_judge
-  back_inside i m h = simp (lt-leb _ _ h)
-
-  back_end : (i m : ℕ) → i ≡ st → to_judge n z ks st tk i m ≡ (can_go m z (steps_back ks (st - i)) && can_go n z (steps_forth ks st tk))
-  unfolding can_go
-  back_end i m e =
-      let t : st + tk - i ≡ tk = omega arith in
-      let b : 0 ≡ st - i = omega arith in
-      forth_left i m (omega arith)
-      ∙ ap₂ (λ (k u : ℕ). can_go k z (steps_forth ks i u)) (letters_anew i m e) t
-      ∙ ap (λ (j : ℕ). can_go n z (steps_forth ks j tk)) e
-      ∙ ap (λ (k : ℕ). can_go m z (steps_back ks k) && can_go n z (steps_forth ks st tk)) b
-
-  back_left : (i m : ℕ) → i ≤ st → to_judge n z ks st tk i m ≡ (can_go m z (steps_back ks (st - i)) && can_go n z (steps_forth ks st tk))
-  back_left i m h = go (leb st i) refl
-    where
-      go : (b : Bool) → leb st i ≡ b → to_judge n z ks st tk i m ≡ (can_go m z (steps_back ks (st - i)) && can_go n z (steps_forth ks st tk))
-      go true e = let l : st ≤ i = leb-true _ _ e in back_end i m (omega arith)
-      go false e = back_inside i m (leb-false _ _ e)
-
-  -- a step over the change c from k letters, and what is left behind it
-  abbrev stepping : ℕ → Change → Bool → ℕ → Bool
-  stepping i c forth k = accepts_then k z (step_edit c forth) (step_edit c (not forth)) && to_judge n z ks st tk (i + 1) (length_by (step_edit c forth) k)
-
-  step_back : (i m : ℕ) → i < st → to_judge n z ks st tk i m ≡ stepping i (kept_at ks (st - 1 - i)) false m
-  unfolding can_go step_edit
-  step_back i m h =
-      let q : st - i ≡ suc (st - 1 - i) = omega arith in
-      let r : st - 1 - i ≡ st - (i + 1) = omega arith in
-      let e : Edit = back_of (kept_at ks (st - 1 - i)) in
-      back_left i m (omega arith)
-      ∙ ap (λ (k : ℕ). can_go m z (steps_back ks k) && can_go n z (steps_forth ks st tk)) q
-      ∙ and_assoc (accepts_then m z e (done_of (kept_at ks (st - 1 - i)))) (can_go (length_by e m) z (steps_back ks (st - 1 - i))) (can_go n z (steps_forth ks st tk))
-      ∙ ap (λ (b : Bool). accepts_then m z e (done_of (kept_at ks (st - 1 - i))) && b)
-      (ap (λ (k : ℕ). can_go (length_by e m) z (steps_back ks k) && can_go n z (steps_forth ks st tk)) r ∙ sym (back_left (i + 1) (length_by e m) (omega arith)))
-
-  step_forth : (i m : ℕ) → st ≤ i → i < st + tk → to_judge n z ks st tk i m ≡ stepping i (kept_at ks i) true (step_letters i st n m)
-  unfolding can_go step_edit
-  step_forth i m h l =
-      let t : ℕ = st + tk - (i + 1) in
-      let q : st + tk - i ≡ suc t = omega arith in
-      let k : ℕ = step_letters i st n m in
-      let e : Edit = done_of (kept_at ks i) in
-      forth_left i m h
-      ∙ ap (λ (u : ℕ). can_go k z (steps_forth ks i u)) q
-      ∙ ap (λ (b : Bool). accepts_then k z e (back_of (kept_at ks i)) && b)
-      (ap₂ (λ (y j : ℕ). can_go y z (steps_forth ks j t)) (sym (letters_on (i + 1) (length_by e k) (λ g. omega arith))) (sym (add-one i))
-      ∙ sym (forth_left (i + 1) (length_by e k) (omega arith)))
-
-  -- the step as the code names it
-  step : (i m : ℕ) → i < st + tk → to_judge n z ks st tk i m ≡ stepping i (kept_at ks (step_place i st)) (leb st i) (step_letters i st n m)
-  unfolding step_place
-  step i m l = go (leb st i) refl
-    where
-      place : (b : Bool) → leb st i ≡ b → step_place i st ≡ cond b i (st - 1 - i)
-      place b e = simp e
-
-      go : (b : Bool) → leb st i ≡ b → to_judge n z ks st tk i m ≡ stepping i (kept_at ks (step_place i st)) (leb st i) (step_letters i st n m)
-      go true e =
-          step_forth i m (leb-true _ _ e) l
-          ∙ ap₂ (λ (p : ℕ) (b : Bool). stepping i (kept_at ks p) b (step_letters i st n m)) (sym (place true e)) (sym e)
-      go false e =
-          let h : i < st = leb-false _ _ e in
-          step_back i m h
-          ∙ ap₂ (λ (p : ℕ) (b : Bool). stepping i (kept_at ks p) b m) (sym (place false e)) (sym e)
-          ∙ ap (stepping i (kept_at ks (step_place i st)) (leb st i)) (sym (letters_on i m (λ g. omega arith)))
-
-  pub judge_start : st + tk ≤ 64 → kept_accepted n z ks st tk ≡ to_judge n z ks st tk 0 n
+module _ (n : ℕ) (z : List ℕ) (ks : List Change) (st tk : ℕ) where
+  pub back_start : st + tk ≤ 64 → st ≤ length ks → Back n z ks st tk n (take st ks)
   unfolding kept_accepted
-  judge_start h =
-      let q : st ≡ st - 0 = omega arith in
-      simp (le-leb _ _ h) (ap (λ (k : ℕ). can_go n z (steps_back ks k) && can_go n z (steps_forth ks st tk)) q ∙ sym (back_left 0 n (omega arith)))
+  back_start h l =
+      let t : length (take st ks) ≡ st = length-take-le st ks l in
+      record { front = λ k i. get_or-take st ks k no_change (omega arith); left = simp (le-leb _ _ h) (ap (left_back n z ks st tk n) (sym t)) }
 
-  pub judge_end : (i m : ℕ) → st + tk ≤ i → to_judge n z ks st tk i m ≡ true
+  -- a turn of the way back: the change c, judged from m letters
+  module _ (m : ℕ) (rest us : List Change) (c : Change) (there again : Edit) (b : Back n z ks st tk m rest) (cut : rest ≡ us ++ c ∷ []) (is : there ≡ back_of c) (if : again ≡ done_of c) where
+    long : length rest ≡ suc (length us)
+    long = ap (λ (x : List Change). length x) cut ∙ length_push us c ∙ add-one (length us)
+
+    last : kept_at ks (length us) ≡ c
+    last = sym (b.front (length us) (omega (arith, long))) ∙ ap (λ (x : List Change). get_or x (length us) no_change) cut ∙ get_or_push us c no_change (length us) refl
+
+    back_turn : kept_accepted n z ks st tk ≡ (accepts_then m z there again && left_back n z ks st tk (length_by there m) (length us))
+    unfolding can_go
+    back_turn =
+        let k : Change = kept_at ks (length us) in
+        b.left
+        ∙ ap (left_back n z ks st tk m) long
+        ∙ and_assoc (accepts_then m z (back_of k) (done_of k)) (can_go (length_by (back_of k) m) z (steps_back ks (length us))) (can_go n z (steps_forth ks st tk))
+        ∙ ap (λ (x : Change). accepts_then m z (back_of x) (done_of x) && left_back n z ks st tk (length_by (back_of x) m) (length us)) last
+        ∙ ap₂ (λ (e f : Edit). accepts_then m z e f && left_back n z ks st tk (length_by e m) (length us)) (sym is) (sym if)
+
+    pub back_stop : accepts_then m z there again ≡ false → kept_accepted n z ks st tk ≡ false
+    back_stop h = back_turn ∙ ap (λ (a : Bool). a && left_back n z ks st tk (length_by there m) (length us)) h
+
+    pub back_on : (j : ℕ) → accepts_then m z there again ≡ true → j ≡ length_by there m → Back n z ks st tk j us
+    back_on j h e =
+        record {
+          front = λ k i. sym (get_or-append us (c ∷ []) no_change k i) ∙ sym (ap (λ (x : List Change). get_or x k no_change) cut) ∙ b.front k (omega (arith, long));
+          left = back_turn ∙ ap (λ (a : Bool). a && left_back n z ks st tk (length_by there m) (length us)) h ∙ ap (λ (x : ℕ). left_back n z ks st tk x (length us)) (sym e);
+        }
+
+  pub forth_start : (m : ℕ) (rest : List Change) → length rest ≡ 0 → Back n z ks st tk m rest → Forth n z ks st tk n 0
   unfolding can_go
-  judge_end i m h =
-      let q : st + tk - i ≡ 0 = omega arith in
-      forth_left i m (omega arith) ∙ ap (λ (u : ℕ). can_go (step_letters i st n m) z (steps_forth ks i u)) q
+  forth_start m rest h b =
+      let s : st ≡ st + 0 = omega arith in
+      let t : tk ≡ tk - 0 = omega arith in
+      b.left ∙ ap (left_back n z ks st tk m) h ∙ ap₂ (λ (i k : ℕ). can_go n z (steps_forth ks i k)) s t
 
-  -- a turn of the loop: the change at place p, judged from k letters
-  module _ (i m p k : ℕ) (there again : Edit) (l : i < st + tk) (at : p ≡ step_place i st) (is : there ≡ step_edit (kept_at ks p) (leb st i))
-      (if : again ≡ step_edit (kept_at ks p) (not (leb st i))) (from : k ≡ step_letters i st n m) where
-    turn : to_judge n z ks st tk i m ≡ (accepts_then k z there again && to_judge n z ks st tk (i + 1) (length_by there k))
-    turn =
-        step i m l
-        ∙ ap₂ (λ (q y : ℕ). stepping i (kept_at ks q) (leb st i) y) (sym at) (sym from)
-        ∙ ap₂ (λ (e f : Edit). accepts_then k z e f && to_judge n z ks st tk (i + 1) (length_by e k)) (sym is) (sym if)
+  -- a turn of the way forth: the change c, judged from m letters
+  module _ (m i : ℕ) (c : Change) (there again : Edit) (l : i < tk) (f : Forth n z ks st tk m i) (at : c ≡ kept_at ks (st + i)) (is : there ≡ done_of c) (if : again ≡ back_of c) where
+    forth_turn : kept_accepted n z ks st tk ≡ (accepts_then m z there again && can_go (length_by there m) z (steps_forth ks (st + (i + 1)) (tk - (i + 1))))
+    unfolding can_go
+    forth_turn =
+        let q : tk - i ≡ suc (tk - (i + 1)) = omega arith in
+        let p : suc (st + i) ≡ st + (i + 1) = omega arith in
+        let t : ℕ = tk - (i + 1) in
+        f
+        ∙ ap (λ (k : ℕ). can_go m z (steps_forth ks (st + i) k)) q
+        ∙ ap (λ (x : Change). accepts_then m z (done_of x) (back_of x) && can_go (length_by (done_of x) m) z (steps_forth ks (suc (st + i)) t)) (sym at)
+        ∙ ap₂ (λ (x y : Edit). accepts_then m z x y && can_go (length_by x m) z (steps_forth ks (suc (st + i)) t)) (sym is) (sym if)
+        ∙ ap (λ (k : ℕ). accepts_then m z there again && can_go (length_by there m) z (steps_forth ks k t)) p
 
-    pub judge_stop : accepts_then k z there again ≡ false → to_judge n z ks st tk i m ≡ false
-    judge_stop h = turn ∙ ap (λ (b : Bool). b && to_judge n z ks st tk (i + 1) (length_by there k)) h
+    pub forth_stop : accepts_then m z there again ≡ false → kept_accepted n z ks st tk ≡ false
+    forth_stop h = forth_turn ∙ ap (λ (a : Bool). a && can_go (length_by there m) z (steps_forth ks (st + (i + 1)) (tk - (i + 1)))) h
 
-    pub judge_on : (j : ℕ) → accepts_then k z there again ≡ true → j ≡ length_by there k → to_judge n z ks st tk i m ≡ to_judge n z ks st tk (i + 1) j
-    judge_on j h e = turn ∙ ap (λ (b : Bool). b && to_judge n z ks st tk (i + 1) (length_by there k)) h ∙ ap (to_judge n z ks st tk (i + 1)) (sym e)
+    pub forth_on : (j : ℕ) → accepts_then m z there again ≡ true → j ≡ length_by there m → Forth n z ks st tk j (i + 1)
+    forth_on j h e =
+        forth_turn
+        ∙ ap (λ (a : Bool). a && can_go (length_by there m) z (steps_forth ks (st + (i + 1)) (tk - (i + 1)))) h
+        ∙ ap (λ (x : ℕ). can_go x z (steps_forth ks (st + (i + 1)) (tk - (i + 1)))) (sym e)
+
+  pub forth_end : (m i : ℕ) → tk ≤ i → Forth n z ks st tk m i → kept_accepted n z ks st tk ≡ true
+  unfolding can_go
+  forth_end m i h f = let q : tk - i ≡ 0 = omega arith in f ∙ ap (λ (k : ℕ). can_go m z (steps_forth ks (st + i) k)) q

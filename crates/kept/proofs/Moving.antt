@@ -12,7 +12,6 @@ use Rattle.changes.specs.declared.Change.{Change}
 use Rattle.changes.specs.declared.Edit.{Edit}
 use Rattle.changes.proofs.Accepting.{accepts_fits, length_back, length_again, then_first, then_second, then_both}
 use Rattle.kept.specs.Lists.{no_change, kept_at, steps_back, steps_forth, can_go, kept_accepted}
-use Rattle.kept.specs.declared.Kept.{Kept}
 use Rattle.kept.proofs.Walking.{go_first, go_rest, go_both, go_none, kept_is, kept_few, kept_back_way, kept_forth_way}
 
 -- A step e, which f undoes, gone from n letters: it can be gone back from where it led, before whatever could be gone from n.
@@ -29,7 +28,7 @@ module _ (n : ℕ) (z : List ℕ) (e f : Edit) (ss : List (Edit × Edit)) (w : c
   goes_back : (us : List (Edit × Edit)) → length_by f (length_by e n) ≡ n → can_go n z us ≡ true → can_go (length_by e n) z ((f, e) ∷ us) ≡ true
   goes_back us r v = turned n z e f us r begins (then_second n z e f (go_first n z e f ss w)) v
 
-module _ (n : ℕ) (z : List ℕ) (ks : List Kept) where
+module _ (n : ℕ) (z : List ℕ) (ks : List Change) where
   -- The newest that stands can be taken back, and the lists stay sound.
   module _ (j tk : ℕ) (w : kept_accepted n z ks (suc j) tk ≡ true) where
     abbrev newest : Change
@@ -62,23 +61,22 @@ module _ (n : ℕ) (z : List ℕ) (ks : List Kept) where
         ∙ go_rest n z _ _ (steps_forth ks (suc st) t) way
 
 -- The way back does not see what is stored above it.
-back_set : (ks : List Kept) (j : ℕ) (x : Kept) (k : ℕ) → k ≤ j → steps_back (set ks j x) k ≡ steps_back ks k
+back_set : (ks : List Change) (j : ℕ) (x : Change) (k : ℕ) → k ≤ j → steps_back (set ks j x) k ≡ steps_back ks k
 back_set ks j x zero l = refl
 back_set ks j x (suc k) l =
-    let e : kept_at (set ks j x) k ≡ kept_at ks k = ap (λ (y : Kept). y.what) (get_or-set_other ks j k x no_change (λ e. omega arith)) in
+    let e : kept_at (set ks j x) k ≡ kept_at ks k = get_or-set_other ks j k x no_change (λ e. omega arith) in
     ap₂ (λ (c : Change) (ss : List (Edit × Edit)). (back_of c, done_of c) ∷ ss) e (back_set ks j x k (omega arith))
 
 -- A change made of n letters and kept as the newest.
-pub kept_changed : (n : ℕ) (z : List ℕ) (ks : List Kept) (st tk : ℕ) (c : Change) → kept_accepted n z ks st tk ≡ true → accepts n z (done_of c) ≡ true
+pub kept_changed : (n : ℕ) (z : List ℕ) (ks : List Change) (st tk : ℕ) (c : Change) → kept_accepted n z ks st tk ≡ true → accepts n z (done_of c) ≡ true
     → accepts (length_by (done_of c) n) z (back_of c) ≡ true → st < 64 → st < length ks
-    → kept_accepted (length_by (done_of c) n) z (set ks st (record { what = c })) (st + 1) 0 ≡ true
+    → kept_accepted (length_by (done_of c) n) z (set ks st c) (st + 1) 0 ≡ true
 kept_changed n z ks st tk c w d b few room =
     let m : ℕ = length_by (done_of c) n in
-    let x : Kept = record { what = c } in
-    let at : kept_at (set ks st x) st ≡ c = ap (λ (y : Kept). y.what) (get_or-set_same ks st x no_change room) in
-    let steps : steps_back (set ks st x) (st + 1) ≡ (back_of c, done_of c) ∷ steps_back ks st
-    = ap (steps_back (set ks st x)) (add-one st) ∙ ap₂ (λ (y : Change) (ss : List (Edit × Edit)). (back_of y, done_of y) ∷ ss) at (back_set ks st x st (omega arith)) in
-    kept_is m z (set ks st x) (st + 1) 0 (omega arith)
+    let at : kept_at (set ks st c) st ≡ c = get_or-set_same ks st c no_change room in
+    let steps : steps_back (set ks st c) (st + 1) ≡ (back_of c, done_of c) ∷ steps_back ks st
+    = ap (steps_back (set ks st c)) (add-one st) ∙ ap₂ (λ (y : Change) (ss : List (Edit × Edit)). (back_of y, done_of y) ∷ ss) at (back_set ks st c st (omega arith)) in
+    kept_is m z (set ks st c) (st + 1) 0 (omega arith)
     (ap (can_go m z) steps
     ∙ turned n z (done_of c) (back_of c) (steps_back ks st) (length_back n c (accepts_fits n z _ d)) d b (kept_back_way n z ks st tk w))
     ∙ go_none m z

@@ -9,7 +9,7 @@ use Rattle.terms.proofs.Below.{and_left, and_right, and_yes}
 use Rattle.changes.specs.Changes.{length_by, accepts_then}
 use Rattle.changes.specs.declared.Edit.{Edit}
 use Rattle.kept.specs.Lists.{steps_back, steps_forth, can_go, kept_accepted}
-use Rattle.kept.specs.declared.Kept.{Kept}
+use Rattle.changes.specs.declared.Change.{Change}
 
 -- one step, and those behind it
 module _ (n : ℕ) (z : List ℕ) (e f : Edit) (ss : List (Edit × Edit)) where
@@ -30,7 +30,7 @@ unfolding can_go
 go_none n z = refl
 
 -- both lists together
-module _ (n : ℕ) (z : List ℕ) (ks : List Kept) (st tk : ℕ) where
+module _ (n : ℕ) (z : List ℕ) (ks : List Change) (st tk : ℕ) where
   pub kept_many : 64 < st + tk → kept_accepted n z ks st tk ≡ false
   unfolding kept_accepted
   kept_many h = simp (lt-leb _ _ h)

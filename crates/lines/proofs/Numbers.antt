@@ -9,22 +9,19 @@ use lib.ListN.{length, drop}
 use lib.Seq.{drop-drop, drop-append_seam}
 use Rattle.terms.specs.declared.limits.Limits.{Limits}
 use Rattle.printing.specs.Printing.{decimal, fields}
-use Rattle.lines.specs.declared.Number.{Number}
-use Rattle.lines.specs.declared.Number.TheVariants.{Is, Not}
-use Rattle.lines.specs.declared.Four.{Four}
-use Rattle.lines.specs.declared.Four.TheVariants.{Are, Missing}
+use Rattle.std.specs.Prelude.{Option, Some, None}
 use Rattle.lines.specs.Lines.{limits_numbers, Short}
-use Rattle.lines.specs.Work.{digit_at, stands, number_at, number_after, with_number, four_after}
-use Rattle.lines.proofs.Standing.{by_test, stands_drop, stands_yes}
+use Rattle.lines.specs.Work.{digit_at, stands, number_at, number_after, with_both, four_after}
+use Rattle.lines.proofs.Standing.{by_test, both_lem, stands_drop, stands_yes}
 use Rattle.lines.proofs.Numerals.{Numbered, number_sound, number_complete, on}
 
 -- a byte below the digits is none
-pub no_digit : (b : ℕ) (ys : List ℕ) → b < 48 → digit_at (b ∷ ys) 0 ≡ 10
+pub no_digit : (b : ℕ) (ys : List ℕ) → b < 48 → digit_at (b ∷ ys) 0 ≡ None
 unfolding digit_at
 no_digit b ys h = simp (lt-ltb 0 (suc (length ys)) (omega arith), lt-leb 48 b h)
 
 -- nor is there one where nothing is left
-pub nothing_digit : digit_at [] 0 ≡ 10
+pub nothing_digit : digit_at [] 0 ≡ None
 unfolding digit_at
 nothing_digit = refl
 
@@ -52,13 +49,13 @@ module _ (xs : List ℕ) where
         }
 
   -- what a number read behind a space is
-  abbrev pub After : ℕ → Number → Type 0
-  After i Not = Unit {0}
-  After i (Is v n) = (v < 10000) × (n ≤ length xs) × (drop i xs ≡ 32 ∷ (decimal v ++ drop n xs))
+  abbrev pub After : ℕ → Option (ℕ × ℕ) → Type 0
+  After i None = Unit {0}
+  After i (Some p) = (p.0 < 10000) × (p.1 ≤ length xs) × (drop i xs ≡ 32 ∷ (decimal p.0 ++ drop p.1 xs))
 
-  behind : (i : ℕ) (r : Number) → Numbered xs (i + 1) r → stands xs i 32 ≡ true → After i r
-  behind i Not p s = tt
-  behind i (Is v n) p s = (p.0, p.1.inside, stands_drop xs i 32 s ∙ ap (λ (z : List ℕ). 32 ∷ z) p.1.text)
+  behind : (i : ℕ) (r : Option (ℕ × ℕ)) → Numbered xs (i + 1) r → stands xs i 32 ≡ true → After i r
+  behind i None p s = tt
+  behind i (Some r) p s = (p.0, p.1.inside, stands_drop xs i 32 s ∙ ap (λ (z : List ℕ). 32 ∷ z) p.1.text)
 
   pub after_sound : (i : ℕ) → After i (number_after xs i)
   unfolding number_after
@@ -66,36 +63,32 @@ module _ (xs : List ℕ) where
       by_test (After i) (stands xs i 32) _ _ (behind i (number_at xs (i + 1)) (number_sound xs (i + 1))) (λ _. tt)
 
   -- what four numbers read are
-  abbrev pub Fours : ℕ → Four → Type 0
-  Fours i Missing = Unit {0}
-  Fours i (Are l n) = Stand i (limits_numbers l) n
+  abbrev pub Fours : ℕ → Option (Limits × ℕ) → Type 0
+  Fours i None = Unit {0}
+  Fours i (Some p) = Stand i (limits_numbers p.0) p.1
 
   -- goes on with what is known of a number
-  pub going : {A : Type 0} (P : A → Type 0) (i : ℕ) (none : A) (then : ℕ → ℕ → A) → P none
-      → ((v n : ℕ) → v < 10000 → n ≤ length xs → drop i xs ≡ 32 ∷ (decimal v ++ drop n xs) → P (then v n)) → P (with_number (number_after xs i) none then)
-  going P i none then p q = go (number_after xs i) (after_sound i)
-    where
-      go : (r : Number) → After i r → P (with_number r none then)
-      go Not h = p
-      go (Is v n) h = q v n h.0 h.1 h.2
+  pub going : {A : Type 0} (P : Option A → Type 0) (i : ℕ) (then : ℕ → ℕ → Option A) → P None
+      → ((v n : ℕ) → v < 10000 → n ≤ length xs → drop i xs ≡ 32 ∷ (decimal v ++ drop n xs) → P (then v n)) → P (with_both (number_after xs i) then)
+  going P i then p q = both_lem (After i) P (number_after xs i) then (after_sound i) p (λ v n h. q v n h.0 h.1 h.2)
 
   pub four_sound : (i : ℕ) → Fours i (four_after xs i)
   unfolding four_after
   four_sound i =
-      going (Fours i) i _ _ tt (λ kind a h₁ l₁ e₁.
-      going (Fours i) a _ _ tt (λ m b h₂ l₂ e₂.
-      going (Fours i) b _ _ tt (λ g c h₃ l₃ e₃.
-      going (Fours i) c _ _ tt (λ d n h₄ l₄ e₄.
+      going (Fours i) i _ tt (λ kind a h₁ l₁ e₁.
+      going (Fours i) a _ tt (λ m b h₂ l₂ e₂.
+      going (Fours i) b _ tt (λ g c h₃ l₃ e₃.
+      going (Fours i) c _ tt (λ d n h₄ l₄ e₄.
       one_stands i kind a n _ h₁ e₁ (one_stands a m b n _ h₂ e₂ (one_stands b g c n _ h₃ e₃ (one_stands c d n n _ h₄ e₄ (none_stand n l₄))))))))
 
   -- a number found behind a space, with what is left behind it
   pub record Found (i v : ℕ) (rest : List ℕ) : Type 0 where
     pub place : ℕ
-    pub read : number_after xs i ≡ Is v place
+    pub read : number_after xs i ≡ Some (v, place)
     pub left : drop place xs ≡ rest
     pub inside : place ≤ length xs
 
-  pub after_complete : (i v : ℕ) (ns rest : List ℕ) → v < 10000 → drop i xs ≡ fields (v ∷ ns) ++ rest → digit_at (fields ns ++ rest) 0 ≡ 10 → Found i v (fields ns ++ rest)
+  pub after_complete : (i v : ℕ) (ns rest : List ℕ) → v < 10000 → drop i xs ≡ fields (v ∷ ns) ++ rest → digit_at (fields ns ++ rest) 0 ≡ None → Found i v (fields ns ++ rest)
   unfolding number_after
   after_complete i v ns rest small e h =
       record { place = i + 1 + length (decimal v); read = read; left = left; inside = (subst (After i) read (after_sound i)).1 }
@@ -106,7 +99,7 @@ module _ (xs : List ℕ) where
       e₁ : drop (i + 1) xs ≡ decimal v ++ (fields ns ++ rest)
       e₁ = on xs i (i + 1) 32 _ e₀ refl
 
-      read : number_after xs i ≡ Is v (i + 1 + length (decimal v))
+      read : number_after xs i ≡ Some (v, i + 1 + length (decimal v))
       read = simp (stands_yes xs i 32 32 _ e₀ refl, number_complete xs (i + 1) v (fields ns ++ rest) small e₁ h)
 
       left : drop (i + 1 + length (decimal v)) xs ≡ fields ns ++ rest
@@ -115,14 +108,14 @@ module _ (xs : List ℕ) where
   -- four numbers found
   pub record FoundFour (i : ℕ) (l : Limits) (rest : List ℕ) : Type 0 where
     pub place : ℕ
-    pub read : four_after xs i ≡ Are l place
+    pub read : four_after xs i ≡ Some (l, place)
     pub left : drop place xs ≡ rest
     pub inside : place ≤ length xs
 
-  pub four_complete : (i : ℕ) (l : Limits) (rest : List ℕ) → Short (limits_numbers l) → drop i xs ≡ fields (limits_numbers l) ++ rest → digit_at rest 0 ≡ 10 → FoundFour i l rest
+  pub four_complete : (i : ℕ) (l : Limits) (rest : List ℕ) → Short (limits_numbers l) → drop i xs ≡ fields (limits_numbers l) ++ rest → digit_at rest 0 ≡ None → FoundFour i l rest
   unfolding four_after
   four_complete i l rest small e h =
-      let s : (v : ℕ) (ns : List ℕ) → digit_at (fields (v ∷ ns) ++ rest) 0 ≡ 10 = λ v ns. no_digit 32 ((decimal v ++ fields ns) ++ rest) (omega arith) in
+      let s : (v : ℕ) (ns : List ℕ) → digit_at (fields (v ∷ ns) ++ rest) 0 ≡ None = λ v ns. no_digit 32 ((decimal v ++ fields ns) ++ rest) (omega arith) in
       let f₁ = after_complete i l.kind (l.m ∷ l.g ∷ l.d ∷ []) rest small.0 e (s l.m (l.g ∷ l.d ∷ [])) in
       let f₂ = after_complete f₁.place l.m (l.g ∷ l.d ∷ []) rest small.1.0 f₁.left (s l.g (l.d ∷ [])) in
       let f₃ = after_complete f₂.place l.g (l.d ∷ []) rest small.1.1.0 f₂.left (s l.d []) in

@@ -10,12 +10,19 @@ use borrow.Author.Tests.{ltb-true, leb-true, eqb-true, lt-ltb, le-ltb, le-leb, e
 use lib.Dec.{T, ltb, leb, eqb}
 use lib.ListN.{length, get_or, drop, length-drop}
 use lib.Seq.{drop-cons, get_or-drop}
-use Rattle.lines.specs.Work.{stands, digit_at}
+use Rattle.std.specs.Prelude.{Option, Some, None}
+use Rattle.lines.specs.Work.{stands, digit_at, with_both}
 
 -- by a test, with its answer at hand
 pub by_test {ℓ} : {A : Type ℓ} (P : A → Type 0) (t : Bool) (x y : A) → (t ≡ true → P x) → (t ≡ false → P y) → P (cond t x y)
 by_test P true x y p q = p refl
 by_test P false x y p q = q refl
+
+-- by what was read, with what is known of it at hand
+pub both_lem : {A B C : Type 0} (S : Option (A × B) → Type 0) (P : Option C → Type 0) (r : Option (A × B)) (then : A → B → Option C) → S r → P None
+    → ((a : A) (b : B) → S (Some (a, b)) → P (then a b)) → P (with_both r then)
+both_lem S P None then s p q = p
+both_lem S P (Some r) then s p q = q r.0 r.1 s
 
 -- a test of which both parts passed
 both : (a b : Bool) → cond a b false ≡ true → (a ≡ true) × (b ≡ true)
@@ -53,8 +60,9 @@ module _ (xs : List ℕ) (i b : ℕ) where
 
 -- a digit that is there
 module _ (xs : List ℕ) (i : ℕ) where
-  Known : ℕ → Type 0
-  Known v = v ≤ 9 → (i < length xs) × (get_or xs i 0 ≡ 48 + v)
+  Known : Option ℕ → Type 0
+  Known None = Unit {0}
+  Known (Some v) = (v ≤ 9) × (i < length xs) × (get_or xs i 0 ≡ 48 + v)
 
   digit_known : Known (digit_at xs i)
   unfolding digit_at Known
@@ -62,18 +70,23 @@ module _ (xs : List ℕ) (i : ℕ) where
       let x : ℕ = get_or xs i 0 in
       by_test Known (ltb i (length xs)) _ _
       (λ a. by_test Known (leb 48 x) _ _
-      (λ b. by_test Known (leb x 57) _ _ (λ c h. (ltb-true _ _ a, omega (arith, leb-true 48 x b))) (λ c h. absurd (omega arith)))
-      (λ b h. absurd (omega arith)))
-      (λ a h. absurd (omega arith))
+      (λ b. by_test Known (leb x 57) _ _ (λ c. (omega (arith, leb-true x 57 c), ltb-true _ _ a, omega (arith, leb-true 48 x b))) (λ c. tt))
+      (λ b. tt))
+      (λ a. tt)
 
-  pub digit_in : digit_at xs i ≤ 9 → i < length xs
-  unfolding Known
-  digit_in h = (digit_known h).0
+  module _ (v : ℕ) (e : digit_at xs i ≡ Some v) where
+    known : (v ≤ 9) × (i < length xs) × (get_or xs i 0 ≡ 48 + v)
+    unfolding Known
+    known = subst Known e digit_known
 
-  pub digit_drop : digit_at xs i ≤ 9 → drop i xs ≡ (48 + digit_at xs i) ∷ drop (i + 1) xs
-  unfolding Known
-  digit_drop h =
-      drop-cons xs i 0 (digit_known h).0 ∙ ap₂ (λ (y k : ℕ). y ∷ drop k xs) (digit_known h).1 (sym (add-one i))
+    pub digit_most : v ≤ 9
+    digit_most = known.0
+
+    pub digit_in : i < length xs
+    digit_in = known.1
+
+    pub digit_drop : drop i xs ≡ (48 + v) ∷ drop (i + 1) xs
+    digit_drop = drop-cons xs i 0 known.1 ∙ ap₂ (λ (y k : ℕ). y ∷ drop k xs) known.2 (sym (add-one i))
 
 -- the digit k places on is that of what is left
 pub digit_on : (xs : List ℕ) (i k : ℕ) → digit_at xs (i + k) ≡ digit_at (drop i xs) k
@@ -86,7 +99,7 @@ digit_on xs i k =
     ]
 
 -- the first digit of a text that begins with one
-pub digit_head : (a : ℕ) (ys : List ℕ) → a ≤ 9 → digit_at ((48 + a) ∷ ys) 0 ≡ a
+pub digit_head : (a : ℕ) (ys : List ℕ) → a ≤ 9 → digit_at ((48 + a) ∷ ys) 0 ≡ Some a
 unfolding digit_at
 digit_head a ys h =
-    rw (lt-ltb 0 (suc (length ys)) (omega arith), le-leb 48 (48 + a) (omega arith), le-leb (48 + a) 57 (omega arith)) (omega arith)
+    rw (lt-ltb 0 (suc (length ys)) (omega arith), le-leb 48 (48 + a) (omega arith), le-leb (48 + a) 57 (omega arith)) (ap Some (omega arith))

@@ -1,11 +1,11 @@
 -- The lines of a call (01, "The call program"; 02, L5 and L6): what a line asks is what its text says, and nothing else is understood.
-use Rattle.std.specs.Prelude.{◌≡◌, Bool, cond, List, [], ◌∷◌, ◌++◌, ℕ, ◌≤◌, ◌<◌, length, drop}
+use Rattle.std.specs.Prelude.{◌≡◌, Bool, cond, Option, Some, None, List, [], ◌∷◌, ◌++◌, ℕ, ◌≤◌, ◌<◌, length, drop}
 use Rattle.terms.specs.declared.limits.Limits.{Limits}
 use Rattle.changes.specs.declared.Edit.{Edit}
 use Rattle.changes.specs.declared.Edit.TheVariants.{Letter, Kind, Lengths, PutIn, TakeOut}
 use Rattle.printing.specs.Printing.{fields}
 use Rattle.lines.specs.declared.Line.{Line}
-use Rattle.lines.specs.declared.Line.TheVariants.{Open, Change, TakeBack, PutAgain, Question, Unknown}
+use Rattle.lines.specs.declared.Line.TheVariants.{Open, Change, TakeBack, PutAgain, Question}
 
 -- What a line can ask: an opening (limits, whether the map is complement, string), a change, a take-back, a put-again or a question.
 pub data Asked : Type 0 where
@@ -60,15 +60,15 @@ pub record Asks (xs : List ℕ) (a : Asked) : Type 0 where
   pub proper : Proper a
   pub form : xs ≡ line_text a
 
--- What a parsed line asks; an opening's string is the rest of the line from a place on. Unknown asks nothing.
-abbrev pub Reads : List ℕ → Line → Type 0
-Reads xs (Open l c from) = Asks xs (opening l c (drop from xs)) × (from ≤ length xs)
-Reads xs (Change e) = Asks xs (change e)
-Reads xs TakeBack = Asks xs take_back
-Reads xs PutAgain = Asks xs put_again
-Reads xs Question = Asks xs question
-Reads xs Unknown = (a : Asked) → Asks xs a → ⊥
+-- What a parsed line asks; an opening's string is the rest of the line from a place on. None asks nothing.
+abbrev pub Reads : List ℕ → Option Line → Type 0
+Reads xs (Some (Open l c from)) = Asks xs (opening l c (drop from xs)) × (from ≤ length xs)
+Reads xs (Some (Change e)) = Asks xs (change e)
+Reads xs (Some TakeBack) = Asks xs take_back
+Reads xs (Some PutAgain) = Asks xs put_again
+Reads xs (Some Question) = Asks xs question
+Reads xs None = (a : Asked) → Asks xs a → ⊥
 
 -- No two readings of a line differ.
 abbrev pub OneReading : Type 0
-OneReading = (xs : List ℕ) (r r' : Line) → Reads xs r → Reads xs r' → r ≡ r'
+OneReading = (xs : List ℕ) (r r' : Option Line) → Reads xs r → Reads xs r' → r ≡ r'

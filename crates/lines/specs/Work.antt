@@ -1,29 +1,24 @@
 -- Working notions: how a line is gone through, place by place. No promise to a caller rests on reading them.
-use Rattle.std.specs.Prelude.{Bool, true, false, cond, List, ℕ, ◌+◌, ◌-◌, ◌*◌, leb, ltb, eqb, length, get_or}
+use Rattle.std.specs.Prelude.{Bool, true, false, cond, Option, Some, None, List, ℕ, ◌+◌, ◌-◌, ◌*◌, leb, ltb, eqb, length, get_or}
 use Rattle.terms.specs.declared.limits.Limits.{Limits}
 use Rattle.changes.specs.declared.Edit.TheVariants.{Letter, Kind, Lengths, PutIn, TakeOut}
-use Rattle.lines.specs.declared.Number.{Number}
-use Rattle.lines.specs.declared.Number.TheVariants.{Is, Not}
-use Rattle.lines.specs.declared.Four.{Four}
-use Rattle.lines.specs.declared.Four.TheVariants.{Are, Missing}
-use Rattle.lines.specs.declared.Two.{Two}
-use Rattle.lines.specs.declared.Two.TheVariants.{Both, NotBoth}
-use Rattle.lines.specs.declared.Placed.{Placed}
-use Rattle.lines.specs.declared.Placed.TheVariants.{At, Nowhere}
 use Rattle.lines.specs.declared.Line.{Line}
-use Rattle.lines.specs.declared.Line.TheVariants.{Open, Change, TakeBack, PutAgain, Question, Unknown}
+use Rattle.lines.specs.declared.Line.TheVariants.{Open, Change, TakeBack, PutAgain, Question}
 
--- The digit at a place, 10 where there is none.
-unfoldable pub digit_at : List ℕ → ℕ → ℕ
-digit_at xs i = cond (ltb i (length xs)) (cond (leb 48 (get_or xs i 0)) (cond (leb (get_or xs i 0) 57) (get_or xs i 0 - 48) 10) 10) 10
+-- The digit at a place, if one stands there.
+unfoldable pub digit_at : List ℕ → ℕ → Option ℕ
+digit_at xs i = cond (ltb i (length xs)) (cond (leb 48 (get_or xs i 0)) (cond (leb (get_or xs i 0) 57) (Some (get_or xs i 0 - 48)) None) None) None
 
 -- The number that five digits begin, with the place after it.
-unfoldable pub number_of : ℕ → ℕ → ℕ → ℕ → ℕ → ℕ → Number
-number_of i a b c d e =
-    cond (ltb 9 a) Not (cond (ltb 9 b) (Is a (i + 1)) (cond (eqb a 0) Not (cond (ltb 9 c) (Is (a * 10 + b) (i + 2))
-    (cond (ltb 9 d) (Is (a * 100 + b * 10 + c) (i + 3)) (cond (ltb 9 e) (Is (a * 1000 + b * 100 + c * 10 + d) (i + 4)) Not)))))
+unfoldable pub number_of : ℕ → Option ℕ → Option ℕ → Option ℕ → Option ℕ → Option ℕ → Option (ℕ × ℕ)
+number_of i None b c d e = None
+number_of i (Some a) None c d e = Some (a, i + 1)
+number_of i (Some a) (Some b) None d e = cond (eqb a 0) None (Some (a * 10 + b, i + 2))
+number_of i (Some a) (Some b) (Some c) None e = cond (eqb a 0) None (Some (a * 100 + b * 10 + c, i + 3))
+number_of i (Some a) (Some b) (Some c) (Some d) None = cond (eqb a 0) None (Some (a * 1000 + b * 100 + c * 10 + d, i + 4))
+number_of i (Some a) (Some b) (Some c) (Some d) (Some e) = None
 
-abbrev pub number_at : List ℕ → ℕ → Number
+abbrev pub number_at : List ℕ → ℕ → Option (ℕ × ℕ)
 number_at xs i = number_of i (digit_at xs i) (digit_at xs (i + 1)) (digit_at xs (i + 2)) (digit_at xs (i + 3)) (digit_at xs (i + 4))
 
 -- The byte b stands at place i.
@@ -31,71 +26,59 @@ unfoldable pub stands : List ℕ → ℕ → ℕ → Bool
 stands xs i b = cond (ltb i (length xs)) (eqb (get_or xs i 0) b) false
 
 -- A space at a place, and the number behind it.
-unfoldable pub number_after : List ℕ → ℕ → Number
-number_after xs i = cond (stands xs i 32) (number_at xs (i + 1)) Not
+unfoldable pub number_after : List ℕ → ℕ → Option (ℕ × ℕ)
+number_after xs i = cond (stands xs i 32) (number_at xs (i + 1)) None
 
--- Goes on with a number and the place after it.
-abbrev pub with_number {ℓ} : {A : Type ℓ} → Number → A → (ℕ → ℕ → A) → A
-with_number Not none then = none
-with_number (Is v next) none then = then v next
-
-abbrev pub with_four {ℓ} : {A : Type ℓ} → Four → A → (Limits → ℕ → A) → A
-with_four Missing none then = none
-with_four (Are l next) none then = then l next
+-- Goes on with the two that were read: a number and the place after it, two numbers, or a place and a byte.
+abbrev pub with_both : {A B C : Type 0} → Option (A × B) → (A → B → Option C) → Option C
+with_both None then = None
+with_both (Some p) then = then p.0 p.1
 
 -- Four numbers, a space before each.
-unfoldable pub four_after : List ℕ → ℕ → Four
+unfoldable pub four_after : List ℕ → ℕ → Option (Limits × ℕ)
 four_after xs i =
-    with_number (number_after xs i) Missing (λ kind a. with_number (number_after xs a) Missing (λ m b.
-    with_number (number_after xs b) Missing (λ g c. with_number (number_after xs c) Missing (λ d e. Are (record { kind = kind; m = m; g = g; d = d }) e))))
+    with_both (number_after xs i) (λ kind a. with_both (number_after xs a) (λ m b.
+    with_both (number_after xs b) (λ g c. with_both (number_after xs c) (λ d e. Some (record { kind = kind; m = m; g = g; d = d }, e)))))
 
 -- The line ends here, or it is not understood.
-abbrev pub ending : List ℕ → ℕ → Line → Line
-ending xs i line = cond (eqb i (length xs)) line Unknown
+abbrev pub ending : List ℕ → ℕ → Line → Option Line
+ending xs i line = cond (eqb i (length xs)) (Some line) None
 
 -- Two numbers behind the line's letter, up to its end.
-unfoldable pub two_of : List ℕ → Two
+unfoldable pub two_of : List ℕ → Option (ℕ × ℕ)
 two_of xs =
-    with_number (number_after xs 1) NotBoth (λ a i. with_number (number_after xs i) NotBoth (λ b e. cond (eqb e (length xs)) (Both a b) NotBoth))
-
-abbrev pub with_two {ℓ} : {A : Type ℓ} → Two → A → (ℕ → ℕ → A) → A
-with_two NotBoth none then = none
-with_two (Both a b) none then = then a b
+    with_both (number_after xs 1) (λ a i. with_both (number_after xs i) (λ b e. cond (eqb e (length xs)) (Some (a, b)) None))
 
 -- A place and a byte up to the line's end.
-unfoldable pub placed_of : List ℕ → Placed
-placed_of xs = with_two (two_of xs) Nowhere (λ p b. cond (leb b 255) (At p b) Nowhere)
+unfoldable pub placed_of : List ℕ → Option (ℕ × ℕ)
+placed_of xs = with_both (two_of xs) (λ p b. cond (leb b 255) (Some (p, b)) None)
 
-abbrev pub with_placed : Placed → (ℕ → ℕ → Line) → Line
-with_placed Nowhere then = Unknown
-with_placed (At p b) then = then p b
+unfoldable pub letter_line : List ℕ → Option Line
+letter_line xs = with_both (placed_of xs) (λ p b. Some (Change (Letter p b)))
 
-unfoldable pub letter_line : List ℕ → Line
-letter_line xs = with_placed (placed_of xs) (λ p b. Change (Letter p b))
+unfoldable pub in_line : List ℕ → Option Line
+in_line xs = with_both (placed_of xs) (λ p b. Some (Change (PutIn p b)))
 
-unfoldable pub in_line : List ℕ → Line
-in_line xs = with_placed (placed_of xs) (λ p b. Change (PutIn p b))
+unfoldable pub out_line : List ℕ → Option Line
+out_line xs = with_both (number_after xs 1) (λ p e. ending xs e (Change (TakeOut p)))
 
-unfoldable pub out_line : List ℕ → Line
-out_line xs = with_number (number_after xs 1) Unknown (λ p e. ending xs e (Change (TakeOut p)))
+unfoldable pub kind_line : List ℕ → Option Line
+kind_line xs = with_both (two_of xs) (λ k d. Some (Change (Kind k d)))
 
-unfoldable pub kind_line : List ℕ → Line
-kind_line xs = with_two (two_of xs) Unknown (λ k d. Change (Kind k d))
-
-unfoldable pub lengths_line : List ℕ → Line
-lengths_line xs = with_two (two_of xs) Unknown (λ m g. Change (Lengths m g))
+unfoldable pub lengths_line : List ℕ → Option Line
+lengths_line xs = with_both (two_of xs) (λ m g. Some (Change (Lengths m g)))
 
 -- A space, the map's letter and a space; then the string.
-abbrev pub string_after : List ℕ → Limits → ℕ → Line
+abbrev pub string_after : List ℕ → Limits → ℕ → Option Line
 string_after xs l i =
     cond (stands xs i 32) (cond (stands xs (i + 2) 32)
-    (cond (stands xs (i + 1) 73) (Open l false (i + 3)) (cond (stands xs (i + 1) 67) (Open l true (i + 3)) Unknown)) Unknown) Unknown
+    (cond (stands xs (i + 1) 73) (Some (Open l false (i + 3))) (cond (stands xs (i + 1) 67) (Some (Open l true (i + 3))) None)) None) None
 
-unfoldable pub open_line : List ℕ → Line
-open_line xs = with_four (four_after xs 1) Unknown (λ l i. string_after xs l i)
+unfoldable pub open_line : List ℕ → Option Line
+open_line xs = with_both (four_after xs 1) (λ l i. string_after xs l i)
 
 -- A whole line.
-unfoldable pub line_of : List ℕ → Line
+unfoldable pub line_of : List ℕ → Option Line
 line_of xs =
     cond (stands xs 0 79) (open_line xs) (cond (stands xs 0 76) (letter_line xs) (cond (stands xs 0 73) (in_line xs) (cond (stands xs 0 88) (out_line xs) (cond (stands xs 0 75) (kind_line xs) (cond (stands xs 0 77) (lengths_line xs)
-    (cond (stands xs 0 66) (ending xs 1 TakeBack) (cond (stands xs 0 65) (ending xs 1 PutAgain) (cond (stands xs 0 81) (ending xs 1 Question) Unknown))))))))
+    (cond (stands xs 0 66) (ending xs 1 TakeBack) (cond (stands xs 0 65) (ending xs 1 PutAgain) (cond (stands xs 0 81) (ending xs 1 Question) None))))))))

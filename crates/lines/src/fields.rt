@@ -2,109 +2,66 @@
 ghost use Rattle.std.specs.Prelude.{◌≡◌, ◌+◌, ◌≤◌, length};
 ghost use Rattle.lines.specs.Work.{digit_at, stands, number_at, number_after, four_after};
 
-use crate::{Four, Number};
 use terms::limits::Limits;
 
-// The digit at a place, 10 where there is none.
-fn digit(s: &[u8], i: usize) -> usize
+// The digit at a place, if one stands there.
+#[tactic(auto, unfolding(crate::specs::Work::digit_at))]
+fn digit(s: &[u8], i: usize) -> Option<usize>
     ensures { result ≡ digit_at s.now i }
 {
-    if i < s.len() {
-        let b = s[i];
-        if 48 <= b {
-            if b <= 57 {
-                return (b - 48) as usize;
-            }
-        }
+    match *s.get(i)? {
+        b @ b'0'..=b'9' => Some((b - b'0') as usize),
+        _ => None,
     }
-    10
 }
 
 // Whether a byte stands at a place.
+#[tactic(auto, unfolding(crate::specs::Work::stands))]
 pub fn stands(s: &[u8], i: usize, b: u8) -> bool
     ensures { result ≡ stands s.now i b }
 {
-    if i < s.len() {
-        return s[i] == b;
-    }
-    false
+    s.get(i) == Some(&b)
 }
 
-// A number of 1 to 4 digits, no leading zero but 0 itself.
-fn number(s: &[u8], i: usize) -> Number
+// A number of 1 to 4 digits, no leading zero but 0 itself, with the place after it.
+#[tactic(auto, using(crate::proofs::Standing::digit_most, crate::proofs::Numerals::begun_first, crate::proofs::Numerals::begun_next), unfolding(crate::specs::Work::number_of))]
+fn number(s: &[u8], i: usize) -> Option<(usize, usize)>
     requires { i ≤ length s.now }
     ensures { result ≡ number_at s.now i }
 {
-    let a = digit(s, i);
-    if 9 < a {
-        return Number::Not;
-    }
-    let b = digit(s, i + 1);
-    if 9 < b {
-        return Number::Is {
-            value: a,
-            next: i + 1,
+    let mut value = digit(s, i)?;
+    for next in i + 1..i + 5 {
+        let Some(d) = digit(s, next) else {
+            return Some((value, next));
         };
+        if value == 0 {
+            return None;
+        }
+        value = value * 10 + d;
     }
-    if a == 0 {
-        return Number::Not;
-    }
-    let c = digit(s, i + 2);
-    if 9 < c {
-        return Number::Is {
-            value: a * 10 + b,
-            next: i + 2,
-        };
-    }
-    let d = digit(s, i + 3);
-    if 9 < d {
-        return Number::Is {
-            value: a * 100 + b * 10 + c,
-            next: i + 3,
-        };
-    }
-    let e = digit(s, i + 4);
-    if 9 < e {
-        return Number::Is {
-            value: a * 1000 + b * 100 + c * 10 + d,
-            next: i + 4,
-        };
-    }
-    Number::Not
+    None
 }
 
-// A space at a place, and the number behind it.
-pub fn number_after(s: &[u8], i: usize) -> Number
+// A space at a place, and the number behind it, with the place after it.
+#[tactic(auto, unfolding(crate::specs::Work::number_after, crate::specs::Work::stands))]
+pub fn number_after(s: &[u8], i: usize) -> Option<(usize, usize)>
     ensures { result ≡ number_after s.now i }
 {
-    if stands(s, i, 32) {
-        return number(s, i + 1);
+    if stands(s, i, b' ') {
+        number(s, i + 1)
+    } else {
+        None
     }
-    Number::Not
 }
 
-// Four numbers, a space before each: kind, m, g and d.
-pub fn four_after(s: &[u8], i: usize) -> Four
+// Four numbers, a space before each: kind, m, g and d, with the place after them.
+#[tactic(auto, unfolding(crate::specs::Work::four_after))]
+pub fn four_after(s: &[u8], i: usize) -> Option<(Limits, usize)>
     ensures { result ≡ four_after s.now i }
 {
-    let Number::Is {
-        value: kind,
-        next: a,
-    } = number_after(s, i)
-    else {
-        return Four::Missing;
-    };
-    let Number::Is { value: m, next: b } = number_after(s, a) else {
-        return Four::Missing;
-    };
-    let Number::Is { value: g, next: c } = number_after(s, b) else {
-        return Four::Missing;
-    };
-    let Number::Is { value: d, next } = number_after(s, c) else {
-        return Four::Missing;
-    };
-    Four::Are {
-        limits: Limits { kind, m, g, d },
-        next,
-    }
+    let (kind, a) = number_after(s, i)?;
+    let (m, b) = number_after(s, a)?;
+    let (g, c) = number_after(s, b)?;
+    let (d, next) = number_after(s, c)?;
+    Some((Limits { kind, m, g, d }, next))
 }

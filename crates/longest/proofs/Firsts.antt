@@ -1,5 +1,5 @@
 -- The search for the first longest exact palindrome, centre by centre. Assumes nothing.
-use mathlib.Core.Path.{◌≡◌, refl, sym, subst, subst₂}
+use mathlib.Core.Path.{◌≡◌, sym, subst, subst₂}
 use mathlib.Core.List.{List}
 use mathlib.Core.Logic.{◌⊎◌, inl, inr, ⊎_elim}
 use Prim.Native.Nat.{ℕ, ◌+◌, ◌-◌, ◌/◌, ◌≤◌, ◌<◌}
@@ -25,9 +25,6 @@ length_fits x d c r m =
     m.attained
 
 module _ (s f : List ℕ) where
-  pub search_start : LongestBelow s f 0 (record { start = 0; len = 0 })
-  search_start = record { is = inl (refl, refl); longest = λ b M p h. absurd (omega arith); first = λ b p h. absurd (omega arith) }
-
   module _ (sound : SoundString s f) (bytes : Bytes s) (c : ℕ) (best next : Span) (r : ℕ) (q : LongestBelow s f c best) (m : MaximalLength (text s f all_bytes) 0 c r) (l : Longer best c r next) where
     -- every exact palindrome of the centre c is no longer than r
     at_centre : (b M : ℕ) → ExactPalindrome s f b M → centre b M ≡ c → M ≤ r
@@ -87,10 +84,6 @@ module _ (s f : List ℕ) where
         longest = λ b M p. q.longest b M p (omega arith);
         first = λ b p. q.first b p (omega arith);
       }
-
-  pub longest_inside : (a L : ℕ) → FirstLongest s f a L → a + L ≤ length s
-  longest_inside a L l =
-      ⊎_elim (λ (w : (a ≡ 0) × (L ≡ 0)). let e : a ≡ 0 = w.0 in let k : L ≡ 0 = w.1 in omega arith) (λ (w : ExactPalindrome s f a L). w.inside) l.is
 
   -- The first longest palindrome is one.
   pub longest_one : (a L b M : ℕ) → FirstLongest s f a L → FirstLongest s f b M → (a ≡ b) × (L ≡ M)

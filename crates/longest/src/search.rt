@@ -4,11 +4,12 @@ ghost use Rattle.terms.specs.Passed.{SoundString};
 ghost use Rattle.longest.specs.Longest.{FirstLongest, PartOf};
 ghost use Rattle.longest.specs.Work.{Longer};
 
+use spans::centre_count;
 use spans::outward::walk;
 use terms::alphabets;
 use texts::flags::own_partner;
 
-// A part of a string by its place; of no letters where there is no palindrome.
+// A part of a string by its place; of no letters where there is no palindrome, since that empty part is what `longest` hands back.
 #[derive(Clone, Copy)]
 pub struct Span {
     pub start: usize,
@@ -34,24 +35,19 @@ pub(crate) fn first_longest(s: &[u8], map: &[u8]) -> Span
     requires { SoundString s.now map.now }
     ensures { FirstLongest s.now map.now result.start result.len }
 {
-    let n = s.len();
-    let all = alphabets::all();
-    let own = own_partner(map, &all);
+    let own = own_partner(map, &alphabets::all());
     let mut best = Span { start: 0, len: 0 };
-    let mut c = 0;
-    while c + 1 < 2 * n {
+    for c in 0..centre_count(s.len()) {
         let found = walk(s, map, 0, c, own);
-        best = longer_of(best, c, found.length as usize);
-        c += 1;
+        best = longer_of(best, c, usize::from(found.length));
     }
     best
 }
 
-// The len letters of s from start on.
-pub(crate) fn part(s: &[u8], start: usize, len: usize) -> &[u8]
-    requires { start + len ≤ length s.now }
-    ensures { PartOf result s.entry start len }
+// The letters of s in the span.
+pub(crate) fn part(s: &[u8], span: Span) -> &[u8]
+    requires { span.start + span.len ≤ length s.now }
+    ensures { PartOf result s.entry span.start span.len }
 {
-    let end = start + len;
-    &s[start..end]
+    &s[span.start..span.start + span.len]
 }

@@ -2,69 +2,74 @@
 #![tactic(auto)]
 
 ghost use Rattle.std.specs.Prelude.{◌≡◌, ◌≤◌, length, take};
-ghost use Rattle.terms.specs.Refusals.{first_fault};
+ghost use Rattle.terms.specs.Refusals.{first_fault, fault_of};
 ghost use Rattle.terms.specs.Texts.{text, opening_faults};
 ghost use Rattle.questions.specs.Tiling.{TilingReply};
-ghost use Rattle.places.specs.Places.{padded};
+ghost use Rattle.places.specs.Places.{padded_to};
+ghost use Rattle.texts.specs.Lent.{text_of};
 
-use questions::Answer;
+use questions::{Figures, Untiled};
 use terms::LETTERS;
 use terms::limits::Limits;
+use terms::refusal::Refusal;
+use texts::Text;
 
-// A string in the sheet's places, with zeros behind it.
-pub fn letters_of(string: &[u8]) -> [u8; LETTERS]
-    requires { length string.now ≤ 1000 }
-    ensures { result ≡ padded string.now }
+// A string in N places, with zeros behind it: in the sheet's places, or the 256 bytes of a map or an alphabet.
+#[tactic(auto, unfolding(crate::specs::Places::padded_to))]
+pub fn padded<const N: usize>(bytes: &[u8]) -> [u8; N]
+    requires { length bytes.now ≤ N }
+    ensures padded { result ≡ padded_to N bytes.now }
+    ensures full { length bytes.now ≡ N → result ≡ bytes.now }
 {
-    let mut a = [0u8; LETTERS];
-    let mut i = 0;
-    while i < string.len() {
-        a[i] = string[i];
-        i += 1;
-    }
+    let mut a = [0u8; N];
+    a[..bytes.len()].copy_from_slice(bytes);
     a
 }
 
-// The 256 bytes of a map or an alphabet.
-pub fn map_of(map: &[u8]) -> [u8; 256]
-    requires { length map.now ≡ 256 }
-    ensures { result ≡ map.now }
-{
-    let mut a = [0u8; 256];
-    let mut i = 0;
-    while i < map.len() {
-        a[i] = map[i];
-        i += 1;
-    }
-    a
-}
-
-// The first refusal that an opening with the first n letters would meet, 0 where it would meet none.
-pub fn opening_refusal(
-    letters: [u8; LETTERS],
+// The first n letters, with their map and alphabet. A sheet's places come apart to the two functions below, as its struct stands above this crate.
+fn first<'a>(
+    letters: &'a [u8; LETTERS],
     n: usize,
-    map: [u8; 256],
-    limits: Limits,
-    alphabet: [u8; 256],
-) -> usize
+    map: &'a [u8; 256],
+    alphabet: &'a [u8; 256],
+) -> Text<'a>
     requires { n ≤ 1000 }
-    ensures { result ≡ first_fault (opening_faults (text (take n letters) map alphabet) limits) }
+    ensures { text_of result ≡ text (take n letters.now) map.now alphabet.now }
 {
-    texts::opening_refusal(&letters[0..n], &map, limits, &alphabet)
+    Text {
+        letters: &letters[..n],
+        map,
+        alphabet,
+    }
+}
+
+// The first refusal that an opening with the first n letters would meet.
+pub fn check_opening(
+    letters: &[u8; LETTERS],
+    n: usize,
+    map: &[u8; 256],
+    limits: Limits,
+    alphabet: &[u8; 256],
+) -> Result<(), Refusal>
+    requires { n ≤ 1000 }
+    ensures { fault_of result ≡ first_fault (opening_faults (text (take n letters.now) map.now alphabet.now) limits) }
+{
+    first(letters, n, map, alphabet).check_opening(limits)
 }
 
 // The tiling question on the first n letters.
 pub fn tile_first(
-    letters: [u8; LETTERS],
+    letters: &[u8; LETTERS],
     n: usize,
-    map: [u8; 256],
+    map: &[u8; 256],
     limits: Limits,
     table: &mut [u16],
     room: &mut [u8],
-    alphabet: [u8; 256],
-) -> Answer
+    alphabet: &[u8; 256],
+) -> Result<Figures, Untiled>
     requires { n ≤ 1000 }
-    ensures { TilingReply (text (take n letters) map alphabet) limits table.old table.new room.old room.new result }
+    ensures { TilingReply (text (take n letters.now) map.now alphabet.now) limits table.old table.new room.old room.new result }
 {
-    questions::tile(&letters[0..n], &map, limits, table, room, &alphabet)
+    let text = first(letters, n, map, alphabet);
+    questions::tile(text, limits, table, room)
 }

@@ -13,6 +13,8 @@ use lib.Seq.{sets, length-sets, set_out, take-suc}
 use borrow.Author.Tests.{lt-ltb, le-ltb}
 use Rattle.io.specs.Digits.{last_digits, IsDigitCount}
 use Rattle.printing.specs.Printing.{decimal_by, decimal, fields, Put}
+use Rattle.printing.specs.Pages.{PutOn}
+use Rattle.printing.specs.declared.Page.{Page}
 
 -- stores past the end change nothing
 pub sets_past : (l : List ℕ) (i : ℕ) (a : List ℕ) → length l ≤ i → sets l i a ≡ l
@@ -52,6 +54,10 @@ module _ {xs : List ℕ} {i : ℕ} {a : List ℕ} {r : ℕ} {ys : List ℕ} (p :
         next = omega (arith, p.next, t.next, put_length, length-append a b);
         now = cc (p.next, p.now, t.now, put_length, sets_min ys (i + length a) b, sets_append xs i a b);
       }
+
+-- one text after the other on a page
+pub then_on : {p q r : Page} {a b : List ℕ} → PutOn p a q → PutOn q b r → PutOn p (a ++ b) r
+then_on s t = record { same_room = t.same_room ∙ s.same_room; put = and_then s.put t.put }
 
 -- one more entry
 pub take_next : (l : List ℕ) (i : ℕ) → i < length l → take (i + 1) l ≡ take i l ++ (get_or l i 0 ∷ [])

@@ -1,2 +1,3 @@
 -- What the call program prints.
 pub mod Printing
+pub mod Pages

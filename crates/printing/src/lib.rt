@@ -2,52 +2,57 @@
 #![tactic(auto)]
 
 ghost use Rattle.std.specs.Prelude.{[], ◌∷◌, ◌≤◌, length};
-ghost use Rattle.printing.specs.Printing.{decimal, fields, printed, Put};
+ghost use Rattle.printing.specs.Printing.{fields, printed};
+ghost use Rattle.printing.specs.Pages.{PutOn};
 
-// Puts one byte at a place and answers the place after it.
-pub fn put_byte(room: &mut [u8], at: usize, b: u8) -> usize
-    ensures { Put room.old at (b ∷ []) result room.new }
-{
-    if at < room.len() {
-        room[at] = b;
-        return at + 1;
-    }
-    room.len()
+// A lent room, and the place behind what is put.
+#[derive(Drop)]
+pub struct Page<'a> {
+    pub room: &'a mut [u8],
+    pub at: usize,
 }
 
-// Puts lent bytes one after the other. Lent to `feed`.
-pub fn put_bytes(room: &mut [u8], at: usize, bytes: &[u8]) -> usize
-    requires { at ≤ length room.old }
-    ensures { Put room.old at bytes.now result room.new }
-{
-    let mut end = at;
-    let mut i = 0;
-    while i < bytes.len() {
-        end = put_byte(room, end, bytes[i]);
-        i += 1;
+impl<'a> Page<'a> {
+    // Puts one byte at the place.
+    pub fn put_byte(&mut self, b: u8)
+        ensures { PutOn self.old (b ∷ []) self.new }
+    {
+        if self.at < self.room.len() {
+            self.room[self.at] = b;
+            self.at += 1;
+        } else {
+            self.at = self.room.len();
+        }
     }
-    end
-}
 
-// Puts a space and a number behind it. Lent to `inspect`.
-pub fn put_field(room: &mut [u8], at: usize, n: usize) -> usize
-    ensures { Put room.old at (fields (n ∷ [])) result room.new }
-{
-    let mut digits = [0u8; 20];
-    let many = io::decimal(n as u64, &mut digits);
-    let start = put_byte(room, at, 32);
-    put_bytes(room, start, &digits[0..many])
-}
-
-// Puts a letter, the numbers, and a line end: one line of a reply.
-pub fn put_line(room: &mut [u8], at: usize, letter: u8, numbers: &[usize]) -> usize
-    ensures { Put room.old at (printed letter numbers.now) result room.new }
-{
-    let mut end = put_byte(room, at, letter);
-    let mut i = 0;
-    while i < numbers.len() {
-        end = put_field(room, end, numbers[i]);
-        i += 1;
+    // Puts lent bytes one after the other. Lent to `feed`.
+    pub fn put_bytes(&mut self, bytes: &[u8])
+        requires { self.old.at ≤ length self.old.room.now }
+        ensures { PutOn self.old bytes.now self.new }
+    {
+        for b in bytes {
+            self.put_byte(*b);
+        }
     }
-    put_byte(room, end, 10)
+
+    // Puts a space and a number behind it. Lent to `inspect`.
+    pub fn put_field(&mut self, n: usize)
+        ensures { PutOn self.old (fields (n ∷ [])) self.new }
+    {
+        let mut digits = [0u8; 20];
+        let many = io::decimal(n as u64, &mut digits);
+        self.put_byte(b' ');
+        self.put_bytes(&digits[..many]);
+    }
+
+    // Puts a letter, the numbers, and a line end: one line of a reply.
+    pub fn put_line(&mut self, letter: u8, numbers: &[usize])
+        ensures { PutOn self.old (printed letter numbers.now) self.new }
+    {
+        self.put_byte(letter);
+        for n in numbers {
+            self.put_field(*n);
+        }
+        self.put_byte(b'\n');
+    }
 }

@@ -8,8 +8,7 @@ use lib.ListN.{length, drop}
 use Rattle.terms.specs.Texts.{Text}
 use Rattle.tilings.specs.Tilings.{Part}
 use Rattle.records.specs.Records.{record_size, records_from}
-use Rattle.questions.specs.Tiling.{room_refusal, figures, handing}
-use Rattle.questions.specs.declared.Answer.{Answer}
+use Rattle.questions.specs.Tiling.{Answer, room_refusal, figures, handing}
 
 module _ (x : Text) (ps : List Part) (room : List ℕ) where
   choose : Bool → Answer × List ℕ

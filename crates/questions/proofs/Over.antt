@@ -6,6 +6,7 @@ use Prim.Native.Nat.{ℕ, ◌+◌, ◌*◌, ◌≤◌, ◌<◌}
 use native.Mathlib.Omega.{arith}
 use lib.ListN.{length, get_or, take, drop, length-map}
 use lib.Seq.{length-take-le}
+use Rattle.std.specs.Prelude.{Ok, Err}
 use Rattle.terms.specs.Texts.{Text, text_all, size}
 use Rattle.terms.specs.Alphabets.{all_bytes}
 use Rattle.terms.specs.Passed.{SoundText, SoundLimits}
@@ -24,8 +25,8 @@ use Rattle.reading.specs.Work.{ReadOut}
 use Rattle.records.specs.Records.{record_size, records_from}
 use Rattle.records.specs.Work.{Writable}
 use Rattle.records.proofs.Sizes.{records_same}
-use Rattle.questions.specs.Tiling.{refusal, HandsOver}
-use Rattle.questions.specs.declared.Answer.{Answer}
+use Rattle.questions.specs.Tiling.{Answer, refusal, HandsOver}
+use Rattle.questions.specs.declared.Untiled.TheVariants.{ShortRoom}
 use Rattle.questions.proofs.Handed.{handing_short, handing_whole}
 
 pub table_known : (B : Board) (g : ℕ) (b a : List ℕ) → entries B.size g ≤ length b → Table B g b a → Known B g 0 a
@@ -64,8 +65,8 @@ module _ (x : Text) (l : Limits) (lens : List ℕ) (sound : SoundText x) (limite
     pub over_tiled : u < 65535 → Tiled By 0 l.g
     over_tiled h = (u, least h)
 
-    pub over_none : u ≡ 65535 → (room : List ℕ) (r : Answer) → r ≡ refusal 10 → HandsOver x l room room r
-    over_none z room r q = inl (over.none 0 l.g none, q, refl)
+    pub over_none : u ≡ 65535 → (room : List ℕ) → HandsOver x l room room (refusal 10)
+    over_none z room = inl (over.none 0 l.g none, refl, refl)
       where
         none : None By 0 l.g
         none =
@@ -93,15 +94,15 @@ module _ (x : Text) (l : Limits) (lens : List ℕ) (sound : SoundText x) (limite
       unfolding ps
       over_writable = writable 0 (decoded parts codes) given.permitted.tiles
 
-      pub over_short : (room : List ℕ) → length room < record_size * parts → HandsOver x l room room (record { number = 12; total = 0; parts = parts; gaps = 0 })
+      pub over_short : (room : List ℕ) → length room < record_size * parts → HandsOver x l room room (Err (ShortRoom parts))
       unfolding ps
       over_short room h =
           let m : length ps ≡ parts = many in
           let e = handing_short x ps room (omega arith) in
-          inr (ps, given, (λ i. record { number = 12; total = 0; parts = sym m i; gaps = 0 }) ∙ sym (ap (λ (y : Answer × List ℕ). y.0) e), sym (ap (λ (y : Answer × List ℕ). y.1) e))
+          inr (ps, given, ap (λ k. Err (ShortRoom k)) (sym m) ∙ sym (ap (λ (y : Answer × List ℕ). y.0) e), sym (ap (λ (y : Answer × List ℕ). y.1) e))
 
       pub over_given : u < 65535 → (room room' : List ℕ) → record_size * parts ≤ length room → room' ≡ records_from (text_all x.letters x.map) 0 (decoded parts codes) ++ drop (record_size * parts) room
-          → HandsOver x l room room' (record { number = 0; total = u; parts = parts; gaps = count })
+          → HandsOver x l room room' (Ok (record { total = u; parts = parts; gaps = count }))
       unfolding ps
       over_given z room room' h q =
           let m : length ps ≡ parts = many in
@@ -110,6 +111,6 @@ module _ (x : Text) (l : Limits) (lens : List ℕ) (sound : SoundText x) (limite
           inr (
             ps,
             given,
-            (λ i. record { number = 0; total = sym s i; parts = sym m i; gaps = sym ro.gapped i }) ∙ sym (ap (λ (y : Answer × List ℕ). y.0) e),
+            (λ i. Ok (record { total = sym s i; parts = sym m i; gaps = sym ro.gapped i })) ∙ sym (ap (λ (y : Answer × List ℕ). y.0) e),
             q ∙ ap (λ (b : List ℕ). b ++ drop (record_size * parts) room) (records_same x.letters x.map all_bytes x.alphabet 0 ps) ∙ ap (λ (k : ℕ). records_from x 0 ps ++ drop (record_size * k) room) (sym m) ∙ sym (ap (λ (y : Answer × List ℕ). y.1) e),
           )

@@ -17,10 +17,10 @@ use Rattle.tilings.specs.Tilings.{Part, None, Given}
 use Rattle.boards.specs.Pieces.{board}
 use Rattle.boards.proofs.Laws.{board_laws}
 use Rattle.records.specs.Records.{record_size}
-use Rattle.questions.specs.Tiling.{table_faults, refusal, room_refusal, figures, handing, HandsOver, Refused, Answered, TilingReply}
+use Rattle.questions.specs.Tiling.{Answer, number_in, parts_in, table_faults, refusal, room_refusal, figures, handing, HandsOver, Refused, Answered, TilingReply}
 use Rattle.questions.specs.Laws.{NoRoom, tiling_numbers, ReplyLaws, OneReply}
-use Rattle.questions.specs.declared.Answer.{Answer}
 use Rattle.questions.proofs.Handed.{handing_short, handing_whole}
+use Rattle.questions.proofs.Passing.{refused_number}
 
 module _ (x : Text) (l : Limits) where
   pub table_numbered : (lent : ℕ) → Numbered (table_faults x l lent)
@@ -44,15 +44,15 @@ module _ (x : Text) (l : Limits) where
     refused_laws : Refused x l t t' room room' r → Laws t t' room room' r
     refused_laws f =
         record {
-          number = tested_first _ r.number (table_faults x l (length t)) f.fault e;
-          listed = widen r.number (rw (sym e) at (early_listed (length t)));
+          number = tested_first _ (number_in r) (table_faults x l (length t)) f.fault e;
+          listed = widen (number_in r) (rw (sym e) at (early_listed (length t)));
           ten = λ z. absurd (early_ten (length t) (sym e ∙ z));
           none = λ z. let h : 0 < first_fault (table_faults x l (length t)) = f.fault in absurd (omega arith);
-          few = let z : r.parts ≡ 0 = ap (λ (a : Answer). a.parts) f.reply in omega arith;
+          few = let z : parts_in r ≡ 0 = ap parts_in f.reply in omega arith;
         }
       where
-        e : r.number ≡ first_fault (table_faults x l (length t))
-        e = ap (λ (a : Answer). a.number) f.reply
+        e : number_in r ≡ first_fault (table_faults x l (length t))
+        e = refused_number f
 
         widen : (k : ℕ) → OneOf k (0 ∷ 1 ∷ 2 ∷ 3 ∷ 18 ∷ 19 ∷ 4 ∷ 5 ∷ 11 ∷ []) → OneOf k tiling_numbers
         widen k = one_of_append k (0 ∷ 1 ∷ 2 ∷ 3 ∷ 18 ∷ 19 ∷ 4 ∷ 5 ∷ 11 ∷ []) (10 ∷ 12 ∷ [])
@@ -60,18 +60,18 @@ module _ (x : Text) (l : Limits) where
     module _ (f : first_fault (table_faults x l (length t)) ≡ 0) where
       none_laws : None (board x l) 0 l.g → r ≡ refusal 10 → Laws t t' room room' r
       none_laws n e =
-          let k : r.number ≡ 10 = ap (λ (a : Answer). a.number) e in
+          let k : number_in r ≡ 10 = ap number_in e in
           let h = (board_laws x l).none l.g n in
           record {
-            number = tested_next _ r.number (table_faults x l (length t)) (table_numbered (length t)) f (inl (n, k));
+            number = tested_next _ (number_in r) (table_faults x l (length t)) (table_numbered (length t)) f (inl (n, k));
             listed = inr (inr (inr (inr (inr (inr (inr (inr (inr (inl k)))))))));
             ten = λ z. (f, n, h.0, h.1);
             none = λ z y. k;
-            few = let z : r.parts ≡ 0 = ap (λ (a : Answer). a.parts) e in omega arith;
+            few = let z : parts_in r ≡ 0 = ap parts_in e in omega arith;
           }
 
       module _ (ps : List Part) (g : Given (board x l) 0 l.g ps) where
-        few_parts : (r : Answer) → r.parts ≡ length ps → r.parts ≤ size x
+        few_parts : (r : Answer) → parts_in r ≡ length ps → parts_in r ≤ size x
         few_parts r e = let h : length ps ≤ size x = (board_laws x l).few l.g ps g.permitted in omega arith
 
         some : None (board x l) 0 l.g → ⊥
@@ -79,24 +79,24 @@ module _ (x : Text) (l : Limits) where
 
         short_laws : length room < record_size * length ps → r ≡ room_refusal ps → Laws t t' room room' r
         short_laws h e =
-            let k : r.number ≡ 12 = ap (λ (a : Answer). a.number) e in
+            let k : number_in r ≡ 12 = ap number_in e in
             record {
-              number = tested_next _ r.number (table_faults x l (length t)) (table_numbered (length t)) f (inr (some, inl ((ps, g, h), k)));
+              number = tested_next _ (number_in r) (table_faults x l (length t)) (table_numbered (length t)) f (inr (some, inl ((ps, g, h), k)));
               listed = inr (inr (inr (inr (inr (inr (inr (inr (inr (inr (inl k))))))))));
               ten = λ z. absurd (omega arith);
               none = λ z y. absurd (some y);
-              few = few_parts r (ap (λ (a : Answer). a.parts) e);
+              few = few_parts r (ap parts_in e);
             }
 
         whole_laws : record_size * length ps ≤ length room → r ≡ figures ps → Laws t t' room room' r
         whole_laws h e =
-            let k : r.number ≡ 0 = ap (λ (a : Answer). a.number) e in
+            let k : number_in r ≡ 0 = ap number_in e in
             record {
-              number = tested_next _ r.number (table_faults x l (length t)) (table_numbered (length t)) f (inr (some, inr (fits, k)));
+              number = tested_next _ (number_in r) (table_faults x l (length t)) (table_numbered (length t)) f (inr (some, inr (fits, k)));
               listed = inl k;
               ten = λ z. absurd (omega arith);
               none = λ z y. absurd (some y);
-              few = few_parts r (ap (λ (a : Answer). a.parts) e);
+              few = few_parts r (ap parts_in e);
             }
           where
             fits : NoRoom x l room → ⊥

@@ -2,57 +2,72 @@
 #![tactic(auto)]
 
 ghost use Rattle.std.specs.Prelude.{◌≡◌, ◌≤◌, length};
-ghost use Rattle.terms.specs.Refusals.{first_fault};
-ghost use Rattle.terms.specs.Texts.{text};
+ghost use Rattle.terms.specs.Refusals.{first_fault, fault_of};
 ghost use Rattle.terms.specs.Passed.{EverySound, SomeSound, SoundLimits};
+ghost use Rattle.texts.specs.Lent.{text_of};
 ghost use Rattle.spans.specs.Palindromes.{centres};
 ghost use Rattle.spans.specs.Centres.{Holds};
 ghost use Rattle.tilings.specs.Tilings.{entries, Table};
 ghost use Rattle.tilings.specs.Work.{board_by};
 ghost use Rattle.boards.specs.Pieces.{board};
 ghost use Rattle.table.specs.Work.{Known};
-ghost use Rattle.questions.specs.Tiling.{refusal, table_faults, HandsOver, TilingReply};
+ghost use Rattle.questions.specs.Tiling.{table_faults, behind, HandsOver, TilingReply};
+ghost use Rattle.questions.specs.declared.Untiled.TheVariants.{Refused};
 
 use reading::read_parts;
 use records::{SIZE, put_parts};
 use spans::fill_lengths;
-use table::{at, fill_table};
+use table::{Totals, fill_table};
 use terms::limits::Limits;
+use terms::refusal::Refusal;
 use terms::{CENTRES, LETTERS};
+use texts::Text;
+use ways::Spans;
 
-// A refusal's number, or 0 with the gap total, the number of parts and the number of gaps; 12 also has the parts needed.
+// The figures of the tiling given: gap total, number of parts and number of gaps.
 #[derive(Clone, Copy)]
-pub struct Answer {
-    pub number: usize,
+pub struct Figures {
     pub total: usize,
     pub parts: usize,
     pub gaps: usize,
 }
 
-fn refused(number: usize) -> Answer
-    ensures { result ≡ refusal number }
-{
-    Answer {
-        number,
-        total: 0,
-        parts: 0,
-        gaps: 0,
+// Why no tiling is handed over: a refusal, or a room too short (12), with the parts needed.
+#[derive(Clone, Copy)]
+pub enum Untiled {
+    Refused(Refusal),
+    ShortRoom { parts: usize },
+}
+
+impl From<Refusal> for Untiled {
+    ghost from_gives = { λ e u. u ≡ Refused e };
+
+    fn from(reason: Refusal) -> Untiled {
+        Untiled::Refused(reason)
     }
 }
 
-// The first refusal that needs no tiling, with `lent` entries for the table, 0 where there is none.
-fn table_refusal(s: &[u8], map: &[u8], limits: Limits, lent: usize, alphabet: &[u8]) -> usize
-    ensures { result ≡ first_fault (table_faults (text s.now map.now alphabet.now) limits lent) }
+impl From<Untiled> for Refusal {
+    ghost from_gives = { λ u e. e ≡ behind u };
+
+    fn from(why: Untiled) -> Refusal {
+        match why {
+            Untiled::Refused(refusal) => refusal,
+            Untiled::ShortRoom { parts: _ } => Refusal::RoomTooShort,
+        }
+    }
+}
+
+// The first refusal that needs no tiling, with `lent` entries for the table.
+fn check_table(text: Text, limits: Limits, lent: usize) -> Result<(), Refusal>
+    ensures { fault_of result ≡ first_fault (table_faults (text_of text.entry) limits lent) }
 {
-    let number = texts::opening_refusal(s, map, limits, alphabet);
-    if number != 0 {
-        return number;
-    }
+    text.check_opening(limits)?;
     let g = limits.g;
-    if lent < (s.len() + 1) * (g + 1) {
-        return 11;
+    if lent < (text.letters.len() + 1) * (g + 1) {
+        return Err(Refusal::TableTooShort);
     }
-    0
+    Ok(())
 }
 
 // The tiling given is read out of a full table, and its records are written.
@@ -63,7 +78,7 @@ fn hand_over(
     limits: Limits,
     table: &[u16],
     room: &mut [u8],
-) -> Answer
+) -> Result<Figures, Untiled>
     requires some_sound { SomeSound s.now map.now (λ x. Holds x limits.d lens.now) }
     requires sound_limits { SoundLimits limits }
     requires lengths_fit { centres (length s.now) ≤ length lens.now }
@@ -71,34 +86,29 @@ fn hand_over(
     ensures { EverySound s.now map.now (λ x. Holds x limits.d lens.now) (λ x. HandsOver x limits room.old room.new result) }
 {
     let n = s.len();
-    let kind = limits.kind;
-    let m = limits.m;
-    let g = limits.g;
-    let least = at(table, g, 0, g);
+    let Limits { kind, m, g, .. } = limits;
+    let spans = Spans { lens, n, kind, m };
+    let totals = Totals { spans, g, t: table };
+    let least = totals.at(0, g);
     if least == 65535 {
-        return refused(10);
+        return Err(Untiled::Refused(Refusal::NoTiling));
     }
     let mut codes = [0u16; LETTERS];
-    let read = read_parts(lens, n, kind, m, g, table, &mut codes);
+    let read = read_parts(totals, &mut codes);
     let parts = read.parts;
     if room.len() < SIZE * parts {
-        return Answer {
-            number: 12,
-            total: 0,
-            parts,
-            gaps: 0,
-        };
+        return Err(Untiled::ShortRoom { parts });
     }
-    put_parts(s, map, &codes, parts, room);
-    Answer {
-        number: 0,
+    put_parts(s, map, &codes[..parts], room);
+    Ok(Figures {
         total: least as usize,
         parts,
         gaps: read.gaps,
-    }
+    })
 }
 
 // The question after its tests, with the maximal lengths lent: the table, and what is handed over.
+// The string and its map apart: that a letter is a byte is known of a lent slice, and not of one in a struct.
 fn tile_by(
     s: &[u8],
     map: &[u8],
@@ -106,7 +116,7 @@ fn tile_by(
     limits: Limits,
     table: &mut [u16],
     room: &mut [u8],
-) -> Answer
+) -> Result<Figures, Untiled>
     requires some_sound { SomeSound s.now map.now (λ x. Holds x limits.d lens.now) }
     requires sound_limits { SoundLimits limits }
     requires lengths_fit { centres (length s.now) ≤ length lens.now }
@@ -114,30 +124,22 @@ fn tile_by(
     ensures { EverySound s.now map.now (λ x. Holds x limits.d lens.now) (λ x. Table (board x limits) limits.g table.old table.new × HandsOver x limits room.old room.new result) }
 {
     let n = s.len();
-    let kind = limits.kind;
-    let m = limits.m;
-    let g = limits.g;
-    fill_table(lens, n, kind, m, g, table);
+    let Limits { kind, m, g, .. } = limits;
+    fill_table(Spans { lens, n, kind, m }, g, table);
     hand_over(s, map, lens, limits, table, room)
 }
 
 // The tiling question: fills the table, and writes the records of the tiling given.
 pub fn tile(
-    s: &[u8],
-    map: &[u8],
+    text: Text,
     limits: Limits,
     table: &mut [u16],
     room: &mut [u8],
-    alphabet: &[u8],
-) -> Answer
-    ensures { TilingReply (text s.now map.now alphabet.now) limits table.old table.new room.old room.new result }
+) -> Result<Figures, Untiled>
+    ensures { TilingReply (text_of text.entry) limits table.old table.new room.old room.new result }
 {
-    let fault = table_refusal(s, map, limits, table.len(), alphabet);
-    if fault != 0 {
-        return refused(fault);
-    }
+    check_table(text, limits, table.len())?;
     let mut lens = [0u16; CENTRES];
-    let d = limits.d;
-    fill_lengths(s, map, d, &mut lens, alphabet);
-    tile_by(s, map, &lens, limits, table, room)
+    fill_lengths(text, limits.d, &mut lens);
+    tile_by(text.letters, text.map, &lens, limits, table, room)
 }

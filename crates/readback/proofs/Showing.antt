@@ -8,22 +8,23 @@ use native.Mathlib.Nat.{div-add-mod', mod-lt, div-lt_iff_lt-mul}
 use borrow.Author.Tests.{le-ltb}
 use lib.ListN.{length, get_or, take, drop}
 use lib.Seq.{ext_get_or, get_or-take, length-take-le, take_at}
+use Rattle.std.specs.Prelude.{Result, Ok, Err}
 use Rattle.terms.specs.Refusals.{first_fault}
 use Rattle.terms.specs.Limits.{too_many_errors}
 use Rattle.terms.specs.Texts.{Text, size, text_faults, opening_faults}
 use Rattle.terms.specs.declared.limits.Limits.{Limits}
+use Rattle.terms.specs.declared.refusal.Refusal.{Refusal}
+use Rattle.terms.proofs.Named.{not_zero}
 use Rattle.terms.proofs.Refusals.{text_numbered, opening_numbered, fault_goes_on}
 use Rattle.spans.specs.Palindromes.{centres}
 use Rattle.spans.specs.Centres.{Holds, centres_faults, CentresReply}
-use Rattle.spans.specs.declared.CentreCount.{CentreCount}
 use Rattle.spans.proofs.Walking.{longest_unique}
 use Rattle.tilings.specs.Tilings.{Part, None, Given, Entry, entries, Table}
 use Rattle.boards.specs.Pieces.{board}
 use Rattle.boards.proofs.Laws.{board_laws}
 use Rattle.records.specs.Records.{record_size, records_from}
 use Rattle.records.proofs.Sizes.{records_length}
-use Rattle.questions.specs.Tiling.{table_faults, refusal, figures, handing, HandsOver, Answered, TilingReply}
-use Rattle.questions.specs.declared.Answer.{Answer}
+use Rattle.questions.specs.Tiling.{Answer, table_faults, refusal, figures, handing, HandsOver, Answered, TilingReply}
 use Rattle.questions.proofs.Handed.{handing_whole}
 
 -- A list of which the first entries are known begins with them.
@@ -87,10 +88,15 @@ module _ (x : Text) (l : Limits) (clear : first_fault (opening_faults x l) ≡ 0
           )
 
 pub centres_replies : (x : Text) (d : ℕ) → first_fault (text_faults x) ≡ 0 → d ≤ 15 → (T : List ℕ) → length T ≡ centres (size x) → Holds x d T
-    → (b a : List ℕ) (r : CentreCount) → CentresReply x d b a r → centres (size x) ≤ length b → (r ≡ record { number = 0; count = length T }) × (take (length T) a ≡ T)
+    → (b a : List ℕ) (r : Result ℕ Refusal) → CentresReply x d b a r → centres (size x) ≤ length b → (r ≡ Ok (length T)) × (take (length T) a ≡ T)
 unfolding centres_faults first_fault too_many_errors
-centres_replies x d clear h T n held b a r p w =
-    let k : first_fault (centres_faults x d (length b)) ≡ 0 = fault_goes_on (text_faults x) _ (text_numbered x) clear ∙ simp (le-ltb _ _ h, le-ltb _ _ w) in
-    let z : r.number ≡ 0 = p.number ∙ k in
-    let q = p.accepted z in
-    ((λ i. record { number = z i; count = (q.0 ∙ sym n) i }), begins a T (let e : length a ≡ length b = q.1.long in omega arith) (λ c j. longest_unique (q.1.filled c (omega arith)) (held c (omega arith))))
+centres_replies x d clear h T n held b a r p w = go r p
+  where
+    k : first_fault (centres_faults x d (length b)) ≡ 0
+    k = fault_goes_on (text_faults x) _ (text_numbered x) clear ∙ simp (le-ltb _ _ h, le-ltb _ _ w)
+
+    go : (r : Result ℕ Refusal) → CentresReply x d b a r → (r ≡ Ok (length T)) × (take (length T) a ≡ T)
+    go (Ok c) p =
+        let q = p.accepted in
+        (ap Ok (q.0 ∙ sym n), begins a T (let e : length a ≡ length b = q.1.long in omega arith) (λ c j. longest_unique (q.1.filled c (omega arith)) (held c (omega arith))))
+    go (Err e) p = absurd (not_zero e (p.number ∙ k))

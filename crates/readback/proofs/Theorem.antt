@@ -8,6 +8,7 @@ use native.Mathlib.Omega.{arith}
 use borrow.Author.Tests.{leb-true, ltb-true, eqb-true}
 use lib.Dec.{leb, ltb, eqb}
 use lib.ListN.{length, get_or, take}
+use Rattle.std.specs.Prelude.{Ok}
 use Rattle.terms.specs.Refusals.{first_fault}
 use Rattle.terms.specs.Maps.{every_below, own_inverse, map_faults, plain_map, complement_map}
 use Rattle.terms.specs.Alphabets.{all_bytes, some_below, own_partner, closed_under, spelt, alphabet_faults}
@@ -27,8 +28,7 @@ use Rattle.tilings.specs.Work.{PieceBy, board_by}
 use Rattle.boards.specs.Pieces.{board}
 use Rattle.boards.proofs.Transfer.{Transfer, transfer}
 use Rattle.records.specs.Records.{record_size, records_from}
-use Rattle.questions.specs.Tiling.{TilingReply}
-use Rattle.questions.specs.declared.Answer.{Answer}
+use Rattle.questions.specs.Tiling.{Answer, TilingReply}
 use Rattle.readback.specs.Shown.{bases, text_of, Line, P, G, lines_from, parts_of, Sample, tiling, no_tiling, all_centres, TilingShown, NoneShown, CentresShown, Shown, AllShown}
 use Rattle.readback.specs.Samples.{samples}
 use Rattle.readback.proofs.Lengths.{outward, longest, lengths_of, lengths_held}
@@ -184,10 +184,10 @@ module _ (x : Text) (l : Limits) (t : accepted? x l ≡ true) where
           (below_at (λ j. entry? span? (size x) (j / (l.g + 1)) (j % (l.g + 1)) (get_or T j 0)) (length T) k (and_right (leb (length T) (entries (size x) l.g)) _ p) h))
 
       replies : (table table' room room' : List ℕ) (r : Answer) → TilingReply x l table table' room room' r → entries (size x) l.g ≤ length table → record_size * length lines ≤ length room
-          → (r ≡ record { number = 0; total = sum; parts = length lines; gaps = gs }) × (take (record_size * length lines) room' ≡ records_from x 0 (parts_of lines)) × (take (length T) table' ≡ T)
+          → (r ≡ Ok (record { total = sum; parts = length lines; gaps = gs })) × (take (record_size * length lines) room' ≡ records_from x 0 (parts_of lines)) × (take (length T) table' ≡ T)
       replies table table' room room' r q h w =
           let (a, b, d) = tiling_replies x l clear (parts_of lines) gv T (leb-true _ _ (and_left _ _ p)) entry table table' room room' r q h (omega (arith, long)) in
-          (a ∙ (λ i. record { number = 0; total = s i; parts = long i; gaps = c i }), ap (λ (k : ℕ). take (record_size * k) room') (sym long) ∙ b, d)
+          (a ∙ (λ i. Ok (record { total = s i; parts = long i; gaps = c i })), ap (λ (k : ℕ). take (record_size * k) room') (sym long) ∙ b, d)
 
 centres_shown : (x : Text) (d : ℕ) (T : List ℕ) → first_fault (text_faults x) ≡ 0 → d ≤ 15 → lengths_of x d ≡ T → CentresShown x d T
 unfolding lengths_of

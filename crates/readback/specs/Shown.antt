@@ -1,17 +1,16 @@
 -- What an example shows, and when it holds: of the definitions, and of every reply that the promises allow.
-use Rattle.std.specs.Prelude.{◌≡◌, cond, ◌||◌, List, [], ◌∷◌, ℕ, ◌+◌, ◌*◌, ◌≤◌, eqb, length, take}
+use Rattle.std.specs.Prelude.{◌≡◌, cond, ◌||◌, List, [], ◌∷◌, ℕ, ◌+◌, ◌*◌, ◌≤◌, eqb, length, take, Result, Ok}
 use Rattle.terms.specs.Maps.{values_from, plain_map, complement_map}
 use Rattle.terms.specs.Texts.{Text, text, text_all, size}
 use Rattle.terms.specs.declared.limits.Limits.{Limits}
+use Rattle.terms.specs.declared.refusal.Refusal.{Refusal}
 use Rattle.spans.specs.Palindromes.{centres}
 use Rattle.spans.specs.Centres.{Holds, CentresReply}
-use Rattle.spans.specs.declared.CentreCount.{CentreCount}
 use Rattle.tilings.specs.Tilings.{Part, piece, gap, gaps, total, None, Given, entries}
 use Rattle.tilings.specs.Laws.{length_of}
 use Rattle.boards.specs.Pieces.{board}
 use Rattle.records.specs.Records.{record_size, errors_of, records_from}
-use Rattle.questions.specs.Tiling.{refusal, TilingReply}
-use Rattle.questions.specs.declared.Answer.{Answer}
+use Rattle.questions.specs.Tiling.{Answer, refusal, TilingReply}
 
 -- The alphabet A, C, G, T.
 unfoldable pub bases : List ℕ
@@ -62,7 +61,7 @@ pub record TilingShown (x : Text) (l : Limits) (sum count : ℕ) (lines : List L
       → TilingReply x l table table' room room' r
       → entries (size x) l.g ≤ length table
       → record_size * length lines ≤ length room
-      → (r ≡ record { number = 0; total = sum; parts = length lines; gaps = count })
+      → (r ≡ Ok (record { total = sum; parts = length lines; gaps = count }))
       × (take (record_size * length lines) room' ≡ records_from x 0 (parts_of lines))
       × (take (length printed) table' ≡ printed)
 
@@ -80,10 +79,10 @@ pub record CentresShown (x : Text) (d : ℕ) (printed : List ℕ) : Type 0 where
   pub long : length printed ≡ centres (size x)
   pub held : Holds x d printed
   pub replies :
-      (before after : List ℕ) (r : CentreCount)
+      (before after : List ℕ) (r : Result ℕ Refusal)
       → CentresReply x d before after r
       → centres (size x) ≤ length before
-      → (r ≡ record { number = 0; count = length printed }) × (take (length printed) after ≡ printed)
+      → (r ≡ Ok (length printed)) × (take (length printed) after ≡ printed)
 
 -- An example holds.
 abbrev pub Shown : Sample → Type 0

@@ -9,52 +9,47 @@ use borrow.Author.Tests.{eq-eqb, ne_eqb, le-ltb, eqb-false, eqb-true}
 use lib.Dec.{eqb}
 use lib.ListN.{length, get_or, take, drop, length-drop}
 use lib.Seq.{take_at, drop_at, drop-drop}
-use Rattle.terms.specs.Refusals.{first_fault, OneOf}
+use Rattle.std.specs.Prelude.{None, Some, Ok, Err}
+use Rattle.terms.specs.Refusals.{first_fault, fault_of, OneOf}
 use Rattle.terms.specs.Texts.{Text}
-use Rattle.terms.proofs.Refusals.{fault_listed}
 use Rattle.tilings.specs.Tilings.{Part, piece, gap}
 use Rattle.tilings.specs.Laws.{length_of}
 use Rattle.records.specs.Records.{tag_of, record_of, records_from}
-use Rattle.reader.specs.Reader.{record_bytes, record_at, step_faults, unless_refused, step_of, step_number, step_values}
+use Rattle.reader.specs.Reader.{record_bytes, record_at, step_faults, Stepped, step_refusal, unless_refused, step_of, step_values}
 use Rattle.reader.specs.Laws.{StepLaws, saying_of, HandsOut, ReadsBack}
 use Rattle.reader.specs.declared.Record.{Record}
-use Rattle.reader.specs.declared.Stepped.{Stepped}
-use Rattle.reader.specs.declared.Stepped.TheVariants.{Part as HandedOut, Finished, Refused}
 use Rattle.reader.proofs.Bytes.{says}
+use Rattle.reader.proofs.Steps.{faults, number_of}
 
 -- a refusal's number is its own, and an answer's is 0
-unless_number : (k : ℕ) (a : Stepped) → step_number a ≡ 0 → step_number (unless_refused k a) ≡ k
-unless_number k a e = go (eqb k 0) refl
+unless_number : (k : ℕ) (a : Stepped) → OneOf k (0 ∷ 6 ∷ 15 ∷ 16 ∷ []) → fault_of a ≡ 0 → fault_of (unless_refused k a) ≡ k
+unless_number k a o e = go (eqb k 0) refl
   where
-    go : (t : Bool) → eqb k 0 ≡ t → step_number (cond t a (Refused k)) ≡ k
+    go : (t : Bool) → eqb k 0 ≡ t → fault_of (cond t a (Err (step_refusal k))) ≡ k
     go true h = e ∙ sym (eqb-true k 0 h)
-    go false h = refl
+    go false h = number_of k o (eqb-false k 0 h)
 
 -- an answer that has a number is a refusal
-refused_zeros : (a : Stepped) → (step_number a ≡ 0 → ⊥) → step_values a ≡ 0 ∷ 0 ∷ 0 ∷ 0 ∷ 0 ∷ []
-refused_zeros (HandedOut r next) n = absurd (n refl)
-refused_zeros Finished n = refl
-refused_zeros (Refused k) n = refl
+refused_zeros : (a : Stepped) → (fault_of a ≡ 0 → ⊥) → step_values a ≡ 0 ∷ 0 ∷ 0 ∷ 0 ∷ 0 ∷ []
+refused_zeros (Ok (Some p)) n = absurd (n refl)
+refused_zeros (Ok None) n = refl
+refused_zeros (Err e) n = refl
 
 module _ (file : List ℕ) (at : ℕ) where
-  at_end : at ≡ length file → step_of file at ≡ Finished
+  at_end : at ≡ length file → step_of file at ≡ Ok None
   unfolding step_of
   at_end e = simp (eq-eqb _ _ e)
 
-  elsewhere : (at ≡ length file → ⊥) → step_number (step_of file at) ≡ first_fault (step_faults file at)
+  elsewhere : (at ≡ length file → ⊥) → fault_of (step_of file at) ≡ first_fault (step_faults file at)
   unfolding step_of
-  elsewhere n = simp (ne_eqb _ _ n) (unless_number (first_fault (step_faults file at)) (HandedOut (record_at file at) (at + 6)) refl)
+  elsewhere n = simp (ne_eqb _ _ n) (unless_number (first_fault (step_faults file at)) (Ok (Some (record_at file at, at + 6))) (faults file at) refl)
 
-  faults : OneOf (first_fault (step_faults file at)) (0 ∷ 6 ∷ 15 ∷ 16 ∷ [])
-  unfolding step_faults
-  faults = fault_listed (step_faults file at)
-
-  all_listed : OneOf (step_number (step_of file at)) (0 ∷ 6 ∷ 15 ∷ 16 ∷ [])
+  all_listed : OneOf (fault_of (step_of file at)) (0 ∷ 6 ∷ 15 ∷ 16 ∷ [])
   all_listed = go (eqb at (length file)) refl
     where
-      go : (t : Bool) → eqb at (length file) ≡ t → OneOf (step_number (step_of file at)) (0 ∷ 6 ∷ 15 ∷ 16 ∷ [])
+      go : (t : Bool) → eqb at (length file) ≡ t → OneOf (fault_of (step_of file at)) (0 ∷ 6 ∷ 15 ∷ 16 ∷ [])
       go true h = rw (at_end (eqb-true _ _ h)) (inl refl)
-      go false h = rw (elsewhere (eqb-false _ _ h)) faults
+      go false h = rw (elsewhere (eqb-false _ _ h)) (faults file at)
 
   pub step_laws : StepLaws file at
   step_laws = record { finished = at_end; number = elsewhere; listed = all_listed; zeros = refused_zeros (step_of file at) }
@@ -75,9 +70,9 @@ module _ (x : Text) (file : List ℕ) where
     no_fault =
         simp (le-ltb (length file) at (omega arith), eq-eqb (at % 6) 0 on, le-ltb (length file) (at + 6) whole, known p (get_or file at 0) (ap (λ (r : Record). r.tag) said))
 
-    part_handed : step_of file at ≡ HandedOut (saying_of x i p) (at + 6)
+    part_handed : step_of file at ≡ Ok (Some (saying_of x i p, at + 6))
     unfolding step_of
-    part_handed = simp (ne_eqb at (length file) (λ z. omega arith), no_fault) (ap (λ (r : Record). HandedOut r (at + 6)) said)
+    part_handed = simp (ne_eqb at (length file) (λ z. omega arith), no_fault) (ap (λ (r : Record). Ok (Some (r, at + 6))) said)
 
   -- what is left of the file is the parts' records: they are handed out one after the other
   pub walked : (at i : ℕ) (ps : List Part) → at % 6 ≡ 0 → at ≤ length file → drop at file ≡ records_from x i ps → HandsOut x file at i ps

@@ -1,10 +1,10 @@
 -- Part records read back, one record a step (02, L1).
-use Rattle.std.specs.Prelude.{Bool, not, cond, ◌||◌, List, [], ◌∷◌, ℕ, ◌+◌, ◌*◌, ◌%◌, eqb, ltb, length, get_or, take, drop}
+use Rattle.std.specs.Prelude.{Bool, not, cond, ◌||◌, List, [], ◌∷◌, ℕ, ◌+◌, ◌*◌, ◌%◌, eqb, ltb, length, get_or, take, drop, Option, None, Some, Result, Ok, Err}
 use Rattle.terms.specs.Refusals.{first_fault}
+use Rattle.terms.specs.declared.refusal.Refusal.{Refusal}
+use Rattle.terms.specs.declared.refusal.Refusal.TheVariants.{NoSuchPlace, NoWholeRecord, WrongRecord}
 use Rattle.records.specs.Records.{record_size}
 use Rattle.reader.specs.declared.Record.{Record}
-use Rattle.reader.specs.declared.Stepped.{Stepped}
-use Rattle.reader.specs.declared.Stepped.TheVariants.{Part, Finished, Refused}
 
 -- The six bytes from a place.
 abbrev pub record_bytes : List ℕ → ℕ → List ℕ
@@ -28,22 +28,25 @@ step_faults file at =
     ∷ (16, not (eqb (get_or file at 0) 80 || eqb (get_or file at 0) 71))
     ∷ []
 
+-- What a step answers: a part's record with the place of the next, or nothing at the end; or a refusal.
+abbrev pub Stepped : Type 0
+Stepped = Result (Option (Record × ℕ)) Refusal
+
+-- The refusals of a step by their numbers.
+abbrev pub step_refusal : ℕ → Refusal
+step_refusal k = cond (eqb k 6) NoSuchPlace (cond (eqb k 15) NoWholeRecord WrongRecord)
+
 -- A refusal where there is one, else the answer.
 abbrev pub unless_refused : ℕ → Stepped → Stepped
-unless_refused k answer = cond (eqb k 0) answer (Refused k)
+unless_refused k answer = cond (eqb k 0) answer (Err (step_refusal k))
 
 -- One step: the end itself says finished; else a refusal, or the part with the place of the next.
 unfoldable pub step_of : List ℕ → ℕ → Stepped
 step_of file at =
-    cond (eqb at (length file)) Finished (unless_refused (first_fault (step_faults file at)) (Part (record_at file at) (at + record_size)))
+    cond (eqb at (length file)) (Ok None) (unless_refused (first_fault (step_faults file at)) (Ok (Some (record_at file at, at + record_size))))
 
--- The number of an answer, 0 where the step isn't refused; and its values: tag, errors, start, length, place of the next; zeros where no part is handed out.
-abbrev pub step_number : Stepped → ℕ
-step_number (Part r next) = 0
-step_number Finished = 0
-step_number (Refused k) = k
-
+-- The values of an answer: tag, errors, start, length, place of the next; zeros where no part is handed out.
 abbrev pub step_values : Stepped → List ℕ
-step_values (Part r next) = r.tag ∷ r.errors ∷ r.start ∷ r.length ∷ next ∷ []
-step_values Finished = 0 ∷ 0 ∷ 0 ∷ 0 ∷ 0 ∷ []
-step_values (Refused k) = 0 ∷ 0 ∷ 0 ∷ 0 ∷ 0 ∷ []
+step_values (Ok (Some p)) = p.0.tag ∷ p.0.errors ∷ p.0.start ∷ p.0.length ∷ p.1 ∷ []
+step_values (Ok None) = 0 ∷ 0 ∷ 0 ∷ 0 ∷ 0 ∷ []
+step_values (Err e) = 0 ∷ 0 ∷ 0 ∷ 0 ∷ 0 ∷ []

@@ -2,10 +2,11 @@
 #![tactic(auto)]
 
 ghost use Rattle.std.specs.Prelude.{◌≡◌, ◌+◌, ◌*◌, ◌≤◌, length};
-ghost use Rattle.terms.specs.Refusals.{first_fault};
+ghost use Rattle.terms.specs.Refusals.{first_fault, fault_of};
 ghost use Rattle.reader.specs.Reader.{record_at, step_faults, step_of};
 
 use records::SIZE;
+use terms::refusal::Refusal;
 
 // The bytes that say that a record is a piece's, or a gap's.
 pub const PIECE: u8 = 80;
@@ -21,19 +22,11 @@ pub struct Record {
     pub length: usize,
 }
 
-// A part with the place of the next, the end of the file, or a refusal's number.
-#[derive(Clone, Copy)]
-pub enum Stepped {
-    Part(Record, usize),
-    Finished,
-    Refused(usize),
-}
-
 // The number in two bytes, high byte first.
 fn word(high: u8, low: u8) -> usize
     ensures { result ≡ high * 256 + low }
 {
-    high as usize * 256 + low as usize
+    u16::from_be_bytes([high, low]) as usize
 }
 
 // The record in the six bytes from a place.
@@ -49,42 +42,33 @@ pub fn record_at(file: &[u8], at: usize) -> Record
     }
 }
 
-// The first refusal of a step from a place, 0 where there is none.
-fn step_refusal(file: &[u8], at: usize) -> usize
-    ensures { result ≡ first_fault (step_faults file.now at) }
+// The first refusal of a step from a place.
+fn check_step(file: &[u8], at: usize) -> Result<(), Refusal>
+    ensures { fault_of result ≡ first_fault (step_faults file.now at) }
 {
-    if file.len() < at {
-        return 6;
-    }
-    if at % SIZE != 0 {
-        return 6;
+    if file.len() < at || at % SIZE != 0 {
+        return Err(Refusal::NoSuchPlace);
     }
     if file.len() - at < SIZE {
-        return 15;
+        return Err(Refusal::NoWholeRecord);
     }
     let tag = file[at];
-    if tag == PIECE {
-        return 0;
+    if tag != PIECE && tag != GAP {
+        return Err(Refusal::WrongRecord);
     }
-    if tag == GAP {
-        return 0;
-    }
-    16
+    Ok(())
 }
 
-// One step from a place of a file.
-pub fn step(file: &[u8], at: usize) -> Stepped
+// One step from a place of a file: a part with the place of the next, nothing at the end, or a refusal.
+pub fn step(file: &[u8], at: usize) -> Result<Option<(Record, usize)>, Refusal>
     ensures { result ≡ step_of file.now at }
 {
     if at == file.len() {
-        return Stepped::Finished;
+        return Ok(None);
     }
-    let number = step_refusal(file, at);
-    if number != 0 {
-        return Stepped::Refused(number);
-    }
+    check_step(file, at)?;
     let found = record_at(file, at);
-    Stepped::Part(found, at + SIZE)
+    Ok(Some((found, at + SIZE)))
 }
 
 // A reader: the lent file, and the place of the next record.
@@ -94,33 +78,32 @@ pub struct Reader<'a> {
     pub place: usize,
 }
 
-// A reader that stands at a place of a file.
-pub fn from<'a>(file: &'a [u8], place: usize) -> Reader<'a>
-    ensures { (result.file ≡ file.entry) × (result.place ≡ place) }
-{
-    Reader { file, place }
-}
+impl<'a> Reader<'a> {
+    // A reader that stands at a place of a file.
+    pub fn at(file: &'a [u8], place: usize) -> Reader<'a>
+        ensures { (result.file ≡ file.entry) × (result.place ≡ place) }
+    {
+        Reader { file, place }
+    }
 
-// The reader, moved to another place of its file.
-pub fn moved<'a>(reader: Reader<'a>, place: usize) -> Reader<'a>
-    ensures { (result.file ≡ reader.entry.file) × (result.place ≡ place) }
-{
-    Reader {
-        file: reader.file,
-        place,
+    // The reader, moved to another place of its file.
+    pub fn moved(self, place: usize) -> Reader<'a>
+        ensures { (result.file ≡ self.entry.file) × (result.place ≡ place) }
+    {
+        Reader { place, ..self }
+    }
+
+    // What the reader has before it.
+    pub fn next(self) -> Result<Option<(Record, usize)>, Refusal>
+        ensures { result ≡ step_of self.entry.file.now self.entry.place }
+    {
+        step(self.file, self.place)
     }
 }
 
-// What the reader has before it.
-pub fn next<'a>(reader: Reader<'a>) -> Stepped
-    ensures { result ≡ step_of reader.entry.file.now reader.entry.place }
-{
-    step(reader.file, reader.place)
-}
-
 // One step of a reader at a place, for callers that hold no reader.
-pub fn read(file: &[u8], place: usize) -> Stepped
+pub fn read(file: &[u8], place: usize) -> Result<Option<(Record, usize)>, Refusal>
     ensures { result ≡ step_of file.now place }
 {
-    next(from(file, place))
+    Reader::at(file, place).next()
 }

@@ -9,35 +9,31 @@ use Rattle.tilings.specs.Tilings.{Board, Part, piece, gap, gaps, total, Permitte
 use Rattle.tilings.specs.Work.{Reaches}
 use Rattle.tilings.proofs.Codes.{decode_piece, decode_gap}
 use Rattle.tilings.proofs.Heads.{after_piece, after_gap, ends_of, piece_leads, gap_leads}
+use Rattle.std.proofs.Common.{Some}
 use Rattle.reading.specs.Work.{TopReach, Stops, FirstStop, Leads}
 use Rattle.reading.proofs.Tests.{least_small}
 
 -- Down from the longest span.
-pub top_step : {B : Board} {i q v L : ℕ} → ((M : ℕ) → Reaches B i q v M → M ≤ L) → (Reaches B i q v L → ⊥) → (M : ℕ) → Reaches B i q v M → M ≤ L - 1
+pub top_step : {B : Board} {i q v L : ℕ} → ((M : ℕ) → Reaches B i q v M → M < L) → (Reaches B i q v (L - 1) → ⊥) → (M : ℕ) → Reaches B i q v M → M < L - 1
 top_step {B} {i} {q} {v} {L} top not M r =
-    let k : M ≤ L = top M r in
-    ⊎_elim (λ (h : L ≤ M). let e : M ≡ L = omega arith in absurd (not (subst (Reaches B i q v) e r))) (λ (h : M < L). omega arith) (le_or_lt L M)
+    let k : M < L = top M r in
+    ⊎_elim (λ (h : L - 1 ≤ M). let e : M ≡ L - 1 = omega arith in absurd (not (subst (Reaches B i q v) e r))) (λ (h : M < L - 1). h) (le_or_lt (L - 1) M)
 
-pub top_small : {B : Board} {i q v r : ℕ} → TopReach B i q v r → i ≤ B.size → i + r ≤ B.size
-top_small t h = ⊎_elim (λ z. omega arith) (λ z. omega (arith, least_small z.1)) t.is
+pub reach_small : {B : Board} (i r : ℕ) {q v : ℕ} → Reaches B i q v r → i + r ≤ B.size
+reach_small i r z = omega (arith, least_small z.1)
 
-module _ {B : Board} {i q v r : ℕ} (some : (a M : ℕ) → B.Piece a M → 1 ≤ M) (l : Least B i q v) (t : TopReach B i q v r) where
-  pub lead_piece : 0 < r → Leads B i q (2 * r) (i + r) q
-  lead_piece p =
+module _ {B : Board} {i q v : ℕ} (some : (a M : ℕ) → B.Piece a M → 1 ≤ M) (l : Least B i q v) where
+  pub lead_piece : {r : ℕ} → TopReach B i q v (Some r) → Leads B i q (2 * r) (i + r) q
+  lead_piece {r} t =
+      let w : Reaches B i q v r = t.0 in
       record {
-        onward = omega arith;
+        onward = omega (arith, some i r w.0);
         few = rw (decode_piece r) (omega arith);
         more = (v, w.1);
-        leads = λ ps g. rw (decode_piece r) (piece_leads B i q v r some l w t.top ps g);
+        leads = λ ps g. rw (decode_piece r) (piece_leads B i q v r some l w t.1 ps g);
       }
-    where
-      w : Reaches B i q v r
-      w = ⊎_elim (λ (h : r ≡ 0). absurd (omega arith)) (λ (h : Reaches B i q v r). h) t.is
 
-  module _ (z : r ≤ 0) where
-    bare : (M : ℕ) → Reaches B i q v M → ⊥
-    bare M h = omega (arith, t.top M h, some i M h.0)
-
+  module _ (bare : (M : ℕ) → Reaches B i q v M → ⊥) where
     -- Where no piece reaches the least total, a gap does, and so one is permitted.
     pub gap_first : i < B.size → (M : ℕ) × (1 ≤ M) × (1 ≤ q) × Stops B i (q - 1) v M
     gap_first lt = go l.reached.0 l.reached.1 l.reached.2

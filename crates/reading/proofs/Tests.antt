@@ -4,10 +4,12 @@ use mathlib.Core.List.{List}
 use mathlib.Core.Logic.{inl, inr, ⊎_elim}
 use Prim.Native.Nat.{ℕ, ◌+◌, ◌*◌, ◌≤◌, ◌<◌}
 use native.Mathlib.Omega.{arith}
-use lib.Dec.{ltb, eqb}
+use lib.Dec.{eqb}
 use lib.ListN.{get_or}
+use Rattle.std.proofs.Common.{Option, Some, None}
+use Rattle.std.specs.Option.{is_some}
 use Rattle.terms.specs.Tells.{Tells}
-use Rattle.terms.proofs.Told.{tells_iff, tells_leb, tells_eqb}
+use Rattle.terms.proofs.Told.{tells_iff, tells_eqb}
 use Rattle.tilings.specs.Tilings.{Board, Least, Entry}
 use Rattle.tilings.specs.Work.{Reaches, Tiled}
 use Rattle.tilings.proofs.Covers.{gaps_fit}
@@ -47,11 +49,10 @@ module _ (B : Board) (i q v L : ℕ) {u : ℕ} (e : Entry B (i + L) q u) where
     pub stop_end : i + L ≡ B.size → Stops B i q v L
     stop_end b = record { rest = u; least = entry_least e h; sum = sym sum; ends = inl b }
 
-    pub stop_piece : (i + L ≡ B.size → ⊥) → ((M : ℕ) → B.Piece (i + L) M → 1 ≤ M) → {r : ℕ} → TopReach B (i + L) q u r → Tells (ltb 0 r) (Stops B i q v L)
-    stop_piece b some {r} t =
-        tells_iff _ _ _ (tells_leb 1 r)
-        (λ k. record { rest = u; least = entry_least e h; sum = sym sum; ends = inr (r, ⊎_elim (λ z. absurd (omega arith)) (λ z. z) t.is) })
-        (λ s. ⊎_elim (λ z. absurd (b z)) (λ z. omega (arith, t.top z.0 (rw (← least_entry e s.least) at z.1), some z.0 z.1.0)) s.ends)
+    pub stop_piece : (i + L ≡ B.size → ⊥) → (r : Option ℕ) → TopReach B (i + L) q u r → Tells (is_some r) (Stops B i q v L)
+    unfolding Tells
+    stop_piece b (Some r) t = record { rest = u; least = entry_least e h; sum = sym sum; ends = inr (r, t.0) }
+    stop_piece b None t = λ s. ⊎_elim b (λ z. t z.0 (rw (← least_entry e s.least) at z.1)) s.ends
 
 -- A gap that stops lies within the letters.
 pub stop_inside : {B : Board} {i q v M : ℕ} → Stops B i q v M → i + M ≤ B.size

@@ -1,12 +1,12 @@
 -- Working notions: what inner contracts say of a tiling half read. No promise to a caller rests on reading them.
-use Rattle.std.specs.Prelude.{◌≡◌, List, [], ◌∷◌, ◌⊎◌, ℕ, ◌+◌, ◌≤◌, ◌<◌, get_or}
+use Rattle.std.specs.Prelude.{◌≡◌, List, [], ◌∷◌, Option, Some, None, ℕ, ◌+◌, ◌≤◌, ◌<◌, get_or}
 use Rattle.tilings.specs.Tilings.{Board, Part, gaps, Given, Least}
 use Rattle.tilings.specs.Work.{Reaches, Ends, Tiled, decode, decoded}
 
--- r is the longest piece from i that reaches v, 0 where none does.
-pub record TopReach (B : Board) (i q v r : ℕ) : Type 0 where
-  pub is : (r ≡ 0) ⊎ Reaches B i q v r
-  pub top : (M : ℕ) → Reaches B i q v M → M ≤ r
+-- The longest piece from i that reaches v, or none where none does.
+abbrev pub TopReach : Board → ℕ → ℕ → ℕ → Option ℕ → Type 0
+TopReach B i q v (Some r) = Reaches B i q v r × ((M : ℕ) → Reaches B i q v M → M ≤ r)
+TopReach B i q v None = (M : ℕ) → Reaches B i q v M → ⊥
 
 -- A gap of L letters from i, with which v is reached, may stop there.
 pub record Stops (B : Board) (i q v L : ℕ) : Type 0 where

@@ -3,122 +3,77 @@
 
 ghost use Rattle.std.specs.Prelude.{ℕ, ◌+◌, ◌-◌, ◌*◌, ◌<◌, ◌≤◌, length};
 ghost use Rattle.terms.specs.Tells.{Tells};
-ghost use Rattle.tilings.specs.Work.{board_by, Reaches, Tiled};
-ghost use Rattle.table.specs.Work.{Known};
+ghost use Rattle.tilings.specs.Work.{Reaches, Tiled};
+ghost use Rattle.ways.specs.Spans.{board_of};
+ghost use Rattle.table.specs.Work.{KnownFrom};
 ghost use Rattle.reading.specs.Work.{TopReach, Stops, FirstStop, Leads, ReadOut, Past};
 
-use table::{at, is_piece};
+use table::{Totals, is_piece};
 
 // Whether a piece of len letters from i reaches the total v.
-fn reaches(
-    lens: &[u16],
-    n: usize,
-    kind: usize,
-    m: usize,
-    g: usize,
-    t: &[u16],
-    i: usize,
-    q: usize,
-    v: u16,
-    len: usize,
-) -> bool
-    requires sizes { (n ≤ 1000) × (g ≤ 15) × (2 * n ≤ length lens.now + 1) × (q ≤ g) × (1 ≤ len) × (i + len ≤ n) × (v < 65535) }
-    requires known { Known (board_by lens.now n kind m) g 0 t.now }
-    ensures { Tells result (Reaches (board_by lens.now n kind m) i q v len) }
+fn reaches(totals: Totals<'_>, i: usize, q: usize, v: u16, len: usize) -> bool
+    requires sizes { (q ≤ totals.g) × (1 ≤ len) × (i + len ≤ totals.spans.n) × (v < 65535) }
+    requires known { KnownFrom totals 0 }
+    ensures { Tells result (Reaches (board_of totals.entry.spans) i q v len) }
 {
-    if !is_piece(lens, n, kind, m, i, len) {
+    if !is_piece(totals.spans, i, len) {
         return false;
     }
-    at(t, g, i + len, q) == v
+    totals.at(i + len, q) == v
 }
 
-// The longest piece from i that reaches the total v, 0 where none does.
-fn longest_piece(
-    lens: &[u16],
-    n: usize,
-    kind: usize,
-    m: usize,
-    g: usize,
-    t: &[u16],
-    i: usize,
-    q: usize,
-    v: u16,
-) -> usize
-    requires sizes { (n ≤ 1000) × (g ≤ 15) × (2 * n ≤ length lens.now + 1) × (q ≤ g) × (1 ≤ m) × (i ≤ n) × (v < 65535) }
-    requires known { Known (board_by lens.now n kind m) g 0 t.now }
-    ensures { TopReach (board_by lens.now n kind m) i q v result }
+// The longest piece from i that reaches the total v.
+fn longest_piece(totals: Totals<'_>, i: usize, q: usize, v: u16) -> Option<usize>
+    requires sizes { (q ≤ totals.g) × (i ≤ totals.spans.n) × (v < 65535) }
+    requires known { KnownFrom totals 0 }
+    ensures { TopReach (board_of totals.entry.spans) i q v result }
 {
-    let mut len = n - i;
-    while m <= len {
-        if reaches(lens, n, kind, m, g, t, i, q, v, len) {
-            return len;
+    for len in (totals.spans.m..totals.spans.n - i + 1).rev() {
+        if reaches(totals, i, q, v, len) {
+            return Some(len);
         }
-        len -= 1;
     }
-    0
+    None
 }
 
 // Whether a gap of len letters from i, with which v is reached, may stop there.
-fn stops(
-    lens: &[u16],
-    n: usize,
-    kind: usize,
-    m: usize,
-    g: usize,
-    t: &[u16],
-    i: usize,
-    q: usize,
-    v: u16,
-    len: usize,
-) -> bool
-    requires sizes { (n ≤ 1000) × (g ≤ 15) × (2 * n ≤ length lens.now + 1) × (q ≤ g) × (1 ≤ m) × (1 ≤ len) × (i + len ≤ n) }
-    requires known { Known (board_by lens.now n kind m) g 0 t.now }
-    ensures { Tells result (Stops (board_by lens.now n kind m) i q v len) }
+fn stops(totals: Totals<'_>, i: usize, q: usize, v: u16, len: usize) -> bool
+    requires sizes { (q ≤ totals.g) × (1 ≤ len) × (i + len ≤ totals.spans.n) }
+    requires known { KnownFrom totals 0 }
+    ensures { Tells result (Stops (board_of totals.entry.spans) i q v len) }
 {
     let j = i + len;
-    let w = at(t, g, j, q);
+    let w = totals.at(j, q);
     if w == 65535 {
         return false;
     }
-    let sum = len + (w as usize);
-    if sum != (v as usize) {
+    let sum = len + usize::from(w);
+    if sum != usize::from(v) {
         return false;
     }
-    if j == n {
+    if j == totals.spans.n {
         return true;
     }
-    0 < longest_piece(lens, n, kind, m, g, t, j, q, w)
+    longest_piece(totals, j, q, w).is_some()
 }
 
 // The shortest gap from i with which v is reached and that may stop.
-fn gap_length(
-    lens: &[u16],
-    n: usize,
-    kind: usize,
-    m: usize,
-    g: usize,
-    t: &[u16],
-    i: usize,
-    q: usize,
-    v: u16,
-) -> usize
-    requires sizes { (n ≤ 1000) × (g ≤ 15) × (2 * n ≤ length lens.now + 1) × (q ≤ g) × (1 ≤ m) × (i < n) }
-    requires known { Known (board_by lens.now n kind m) g 0 t.now }
-    requires stopped { (M : ℕ) × (1 ≤ M) × Stops (board_by lens.now n kind m) i q v M }
-    ensures { FirstStop (board_by lens.now n kind m) i q v result }
+fn gap_length(totals: Totals<'_>, i: usize, q: usize, v: u16) -> usize
+    requires sizes { (q ≤ totals.g) × (i < totals.spans.n) }
+    requires known { KnownFrom totals 0 }
+    requires stopped { (M : ℕ) × (1 ≤ M) × Stops (board_of totals.spans) i q v M }
+    ensures { FirstStop (board_of totals.entry.spans) i q v result }
 {
-    let mut len = 1;
-    while i + len <= n {
-        if stops(lens, n, kind, m, g, t, i, q, v, len) {
+    for len in 1..totals.spans.n - i + 1 {
+        if stops(totals, i, q, v, len) {
             return len;
         }
-        len += 1;
     }
-    // Never reached, since some gap may stop.
-    0
+    unreachable!()
 }
 
 // A part by its number (twice its length, and one more for a gap), where the next part begins, and the gaps left.
+// No enum for the part: its number goes into a list in fixed memory, and an enum would take twice the room there.
 #[derive(Clone, Copy)]
 pub struct Next {
     pub code: u16,
@@ -127,43 +82,27 @@ pub struct Next {
 }
 
 // The part that the tiling given from i begins with.
-fn next_part(
-    lens: &[u16],
-    n: usize,
-    kind: usize,
-    m: usize,
-    g: usize,
-    t: &[u16],
-    i: usize,
-    q: usize,
-) -> Next
-    requires sizes { (n ≤ 1000) × (g ≤ 15) × (2 * n ≤ length lens.now + 1) × (q ≤ g) × (1 ≤ m) × (i < n) }
-    requires known { Known (board_by lens.now n kind m) g 0 t.now }
-    requires tiled { Tiled (board_by lens.now n kind m) i q }
-    ensures { Leads (board_by lens.now n kind m) i q result.code result.place result.left }
+fn next_part(totals: Totals<'_>, i: usize, q: usize) -> Next
+    requires sizes { (q ≤ totals.g) × (i < totals.spans.n) }
+    requires known { KnownFrom totals 0 }
+    requires tiled { Tiled (board_of totals.spans) i q }
+    ensures { Leads (board_of totals.entry.spans) i q result.code result.place result.left }
 {
-    let v = at(t, g, i, q);
-    let len = longest_piece(lens, n, kind, m, g, t, i, q, v);
-    if 0 < len {
-        return Next {
+    let v = totals.at(i, q);
+    match longest_piece(totals, i, q, v) {
+        Some(len) => Next {
             code: (2 * len) as u16,
             place: i + len,
             left: q,
-        };
-    }
-    // Never taken, since a tiling without gaps begins with a piece: it shows that q - 1 is a number.
-    if q == 0 {
-        return Next {
-            code: 0,
-            place: 0,
-            left: 0,
-        };
-    }
-    let blank = gap_length(lens, n, kind, m, g, t, i, q - 1, v);
-    Next {
-        code: (2 * blank + 1) as u16,
-        place: i + blank,
-        left: q - 1,
+        },
+        None => {
+            let blank = gap_length(totals, i, q - 1, v);
+            Next {
+                code: (2 * blank + 1) as u16,
+                place: i + blank,
+                left: q - 1,
+            }
+        }
     }
 }
 
@@ -175,25 +114,18 @@ pub struct Tally {
 }
 
 // The tiling given, as numbers of parts; later entries stay.
-pub fn read_parts(
-    lens: &[u16],
-    n: usize,
-    kind: usize,
-    m: usize,
-    g: usize,
-    t: &[u16],
-    codes: &mut [u16],
-) -> Tally
-    requires sizes { (n ≤ 1000) × (g ≤ 15) × (2 * n ≤ length lens.now + 1) × (1 ≤ m) × (n ≤ length codes.old) }
-    requires known { Known (board_by lens.now n kind m) g 0 t.now }
-    requires tiled { Tiled (board_by lens.now n kind m) 0 g }
-    ensures { ReadOut (board_by lens.now n kind m) g result.parts result.gaps codes.new × Past result.parts codes.old codes.new }
+pub fn read_parts(totals: Totals<'_>, codes: &mut [u16]) -> Tally
+    requires sizes { totals.spans.n ≤ length codes.old }
+    requires known { KnownFrom totals 0 }
+    requires tiled { Tiled (board_of totals.spans) 0 totals.g }
+    ensures { ReadOut (board_of totals.entry.spans) totals.entry.g result.parts result.gaps codes.new × Past result.parts codes.old codes.new }
 {
     let mut i = 0;
-    let mut q = g;
+    let mut q = totals.g;
     let mut k = 0;
-    while i < n {
-        let next = next_part(lens, n, kind, m, g, t, i, q);
+    // No `for`: each part says where the next begins.
+    while i < totals.spans.n {
+        let next = next_part(totals, i, q);
         codes[k] = next.code;
         i = next.place;
         q = next.left;
@@ -201,6 +133,6 @@ pub fn read_parts(
     }
     Tally {
         parts: k,
-        gaps: g - q,
+        gaps: totals.g - q,
     }
 }

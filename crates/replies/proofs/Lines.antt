@@ -11,7 +11,9 @@ use Rattle.tilings.specs.Laws.{length_of}
 use Rattle.records.specs.Records.{tag_of, errors_of, records_from}
 use Rattle.reader.specs.Reader.{record_at}
 use Rattle.reader.specs.declared.Record.{Record}
-use Rattle.printing.specs.Printing.{printed, Put}
+use Rattle.printing.specs.Printing.{printed}
+use Rattle.printing.specs.Pages.{PutOn}
+use Rattle.printing.specs.declared.Page.{Page}
 use Rattle.replies.specs.Replies.{part_lines}
 use Rattle.replies.specs.Work.{record_line, record_lines}
 
@@ -43,11 +45,11 @@ lines_of_records x i (p ∷ ps) rest =
     (ap₂ (λ (m n : ℕ). printed (tag_of p) (m ∷ n ∷ errors_of x i p ∷ [])) start long)
     (lines_of_records x (i + length_of p) ps rest)
 
-module _ {out : List ℕ} {at r : ℕ} {out' : List ℕ} where
+module _ {page page' : Page} where
   -- the line of a record that was read
-  pub record_line_lem : (room : List ℕ) (i : ℕ) (f : Record) → Put out at (printed f.tag (f.start ∷ f.length ∷ f.errors ∷ [])) r out' → f ≡ record_at room i → Put out at (record_line room i) r out'
-  record_line_lem room i f p e = subst (λ (z : Record). Put out at (printed z.tag (z.start ∷ z.length ∷ z.errors ∷ [])) r out') e p
+  pub record_line_lem : (room : List ℕ) (i : ℕ) (f : Record) → PutOn page (printed f.tag (f.start ∷ f.length ∷ f.errors ∷ [])) page' → f ≡ record_at room i → PutOn page (record_line room i) page'
+  record_line_lem room i f p e = subst (λ (z : Record). PutOn page (printed z.tag (z.start ∷ z.length ∷ z.errors ∷ [])) page') e p
 
   -- all lines, where k has reached the number of parts
-  pub all_lines : (room : List ℕ) (k parts : ℕ) → Put out at (record_lines room k) r out' → k ≤ parts → parts ≤ k → Put out at (record_lines room parts) r out'
+  pub all_lines : (room : List ℕ) (k parts : ℕ) → PutOn page (record_lines room k) page' → k ≤ parts → parts ≤ k → PutOn page (record_lines room parts) page'
   all_lines room k parts p h g = let e : k ≡ parts = omega arith in rw e at p

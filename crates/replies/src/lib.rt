@@ -1,96 +1,54 @@
 // The text of every reply, put into a lent room.
 #![tactic(auto)]
 
-ghost use Rattle.std.specs.Prelude.{◌≡◌, [], ◌∷◌, ◌+◌, ◌*◌, ◌≤◌, length};
+ghost use Rattle.std.specs.Prelude.{◌≡◌, [], ◌∷◌, ◌+◌, ◌*◌, ◌≤◌, length, Ok};
 ghost use Rattle.records.specs.Records.{record_size};
-ghost use Rattle.sheet.specs.Calls.{number_of};
 ghost use Rattle.printing.specs.Printing.{Put, printed};
+ghost use Rattle.printing.specs.Pages.{PutOn};
 ghost use Rattle.replies.specs.Replies.{refusal_text, said_text, restored_text};
 ghost use Rattle.replies.specs.Work.{record_line, record_lines};
 
-use printing::{put_byte, put_line};
-use questions::Answer;
+use printing::Page;
 use reader::record_at;
 use records::SIZE;
 use sheet::Said;
 use terms::limits::Limits;
+use terms::refusal::Refusal;
 
-// A refusal: `!` and its number.
+// A refusal: `!` and its number. A number and no `Refusal`: this function's promise is of every number.
 pub fn put_refusal(out: &mut [u8], number: usize) -> usize
     ensures { Put out.old 0 (refusal_text number) result out.new }
 {
+    let mut page = Page { room: out, at: 0 };
     let numbers = [number];
-    put_line(out, 0, b'!', &numbers)
-}
-
-// The number of what a call says: 0 where it was accepted.
-pub fn number_of(said: Said) -> usize
-    ensures { result ≡ number_of said }
-{
-    match said {
-        Said::Opened { n: _ } => 0,
-        Said::Letter {
-            place: _,
-            old: _,
-            new: _,
-            standing: _,
-        } => 0,
-        Said::PutIn {
-            place: _,
-            byte: _,
-            n: _,
-            standing: _,
-        } => 0,
-        Said::TakeOut {
-            place: _,
-            byte: _,
-            n: _,
-            standing: _,
-        } => 0,
-        Said::Kind {
-            now: _,
-            standing: _,
-        } => 0,
-        Said::Lengths {
-            now: _,
-            standing: _,
-        } => 0,
-        Said::No { number } => number,
-    }
+    page.put_line(b'!', &numbers);
+    page.at
 }
 
 // The line of a letter put in or taken out: its place, the letter, how many letters there are, how many changes stand.
-fn put_shift(
-    out: &mut [u8],
-    at: usize,
-    mark: u8,
-    place: usize,
-    byte: u8,
-    n: usize,
-    standing: usize,
-) -> usize
-    ensures { Put out.old at (printed mark (place ∷ byte ∷ n ∷ standing ∷ [])) result out.new }
+fn put_shift(page: &mut Page<'_>, mark: u8, place: usize, byte: u8, n: usize, standing: usize)
+    ensures { PutOn page.old (printed mark (place ∷ byte ∷ n ∷ standing ∷ [])) page.new }
 {
     let numbers = [place, byte as usize, n, standing];
-    put_line(out, at, mark, &numbers)
+    page.put_line(mark, &numbers);
 }
 
 // The line of a limits call: all four limits, how many changes stand.
-fn put_limits(out: &mut [u8], at: usize, mark: u8, limits: Limits, standing: usize) -> usize
-    ensures { Put out.old at (printed mark (limits.kind ∷ limits.m ∷ limits.g ∷ limits.d ∷ standing ∷ [])) result out.new }
+fn put_limits(page: &mut Page<'_>, mark: u8, limits: Limits, standing: usize)
+    ensures { PutOn page.old (printed mark (limits.kind ∷ limits.m ∷ limits.g ∷ limits.d ∷ standing ∷ [])) page.new }
 {
     let numbers = [limits.kind, limits.m, limits.g, limits.d, standing];
-    put_line(out, at, mark, &numbers)
+    page.put_line(mark, &numbers);
 }
 
-// The line of what a call says, from a place on.
-pub fn put_said(out: &mut [u8], at: usize, said: Said) -> usize
-    ensures { Put out.old at (said_text said) result out.new }
+// The line of what an accepted call says.
+fn put_accepted(page: &mut Page<'_>, said: Said)
+    ensures { PutOn page.old (said_text (Ok said)) page.new }
 {
     match said {
         Said::Opened { n } => {
             let numbers = [n, 0];
-            put_line(out, at, b'O', &numbers)
+            page.put_line(b'O', &numbers)
         }
         Said::Letter {
             place,
@@ -99,63 +57,67 @@ pub fn put_said(out: &mut [u8], at: usize, said: Said) -> usize
             standing,
         } => {
             let numbers = [place, old as usize, new as usize, standing];
-            put_line(out, at, b'L', &numbers)
+            page.put_line(b'L', &numbers)
         }
         Said::PutIn {
             place,
             byte,
             n,
             standing,
-        } => put_shift(out, at, b'I', place, byte, n, standing),
+        } => put_shift(page, b'I', place, byte, n, standing),
         Said::TakeOut {
             place,
             byte,
             n,
             standing,
-        } => put_shift(out, at, b'X', place, byte, n, standing),
-        Said::Kind { now, standing } => put_limits(out, at, b'K', now, standing),
-        Said::Lengths { now, standing } => put_limits(out, at, b'M', now, standing),
-        Said::No { number } => {
-            let numbers = [number];
-            put_line(out, at, b'!', &numbers)
-        }
+        } => put_shift(page, b'X', place, byte, n, standing),
+        Said::Kind { now, standing } => put_limits(page, b'K', now, standing),
+        Said::Lengths { now, standing } => put_limits(page, b'M', now, standing),
+    }
+}
+
+// The line of what a call says.
+pub fn put_said(page: &mut Page<'_>, said: Result<Said, Refusal>)
+    ensures { PutOn page.old (said_text said) page.new }
+{
+    match said {
+        Ok(said) => put_accepted(page, said),
+        Err(refusal) => page.put_line(b'!', &[refusal.number()]),
     }
 }
 
 // What a take-back or a put-again says: its letter, a space and the line of what was restored.
-pub fn put_restored(out: &mut [u8], letter: u8, said: Said) -> usize
-    ensures { Put out.old 0 (restored_text letter said) result out.new }
+pub fn put_restored(page: &mut Page<'_>, letter: u8, said: Result<Said, Refusal>)
+    ensures { PutOn page.old (restored_text letter said) page.new }
 {
-    if number_of(said) != 0 {
-        return put_said(out, 0, said);
+    match said {
+        Ok(said) => {
+            page.put_byte(letter);
+            page.put_byte(32);
+            put_accepted(page, said)
+        }
+        Err(_) => put_said(page, said),
     }
-    let space = put_byte(out, 0, letter);
-    let at = put_byte(out, space, 32);
-    put_said(out, at, said)
 }
 
 // The line of the record at a place of the room.
-fn put_record_line(out: &mut [u8], at: usize, room: &[u8], i: usize) -> usize
+fn put_record_line(page: &mut Page<'_>, room: &[u8], i: usize)
     requires { i + record_size ≤ length room.now }
-    ensures { Put out.old at (record_line room.now i) result out.new }
+    ensures { PutOn page.old (record_line room.now i) page.new }
 {
     let found = record_at(room, i);
     let errors = found.errors as usize;
     let numbers = [found.start, found.length, errors];
-    put_line(out, at, found.tag, &numbers)
+    page.put_line(found.tag, &numbers);
 }
 
 // The lines of the first records of a room.
-pub fn put_record_lines(out: &mut [u8], at: usize, room: &[u8], parts: usize) -> usize
-    requires at_in_bounds { at ≤ length out.old }
+pub fn put_record_lines(page: &mut Page<'_>, room: &[u8], parts: usize)
+    requires at_in_bounds { page.old.at ≤ length page.old.room.now }
     requires parts_in_bounds { record_size * parts ≤ length room.now }
-    ensures { Put out.old at (record_lines room.now parts) result out.new }
+    ensures { PutOn page.old (record_lines room.now parts) page.new }
 {
-    let mut end = at;
-    let mut k = 0;
-    while k < parts {
-        end = put_record_line(out, end, room, SIZE * k);
-        k += 1;
+    for k in 0..parts {
+        put_record_line(page, room, SIZE * k);
     }
-    end
 }

@@ -1,9 +1,9 @@
 -- All records judged, and the answer of the second question. Assumes nothing.
-use mathlib.Core.Path.{◌≡◌, refl, sym, ◌∙◌, subst}
+use mathlib.Core.Path.{◌≡◌, refl, sym, subst}
 use mathlib.Core.Bool.{Bool, true, false, not}
 use mathlib.Core.List.{List, [], ◌∷◌, ◌++◌}
-use mathlib.Core.Logic.{inl, inr, ⊎_elim}
-use Prim.Native.Nat.{ℕ, ◌+◌, ◌*◌, ◌/◌, ◌%◌, ◌≤◌, ◌<◌}
+use mathlib.Core.Logic.{inl, inr}
+use Prim.Native.Nat.{ℕ, ◌*◌, ◌/◌, ◌%◌, ◌<◌}
 use native.Mathlib.Omega.{arith}
 use borrow.Author.Tests.{eq-eqb, ne_eqb}
 use lib.Dec.{T, eqb}
@@ -13,12 +13,11 @@ use Rattle.terms.specs.Texts.{Text, opening_faults}
 use Rattle.terms.specs.Passed.{SoundText, SoundLimits}
 use Rattle.terms.specs.declared.limits.Limits.{Limits}
 use Rattle.terms.proofs.Refusals.{Numbered, numbered_append, opening_numbered, fault_none, fault_first, fault_next, tested_first, tested_next}
-use Rattle.terms.proofs.Order.{le_or_lt}
 use Rattle.terms.proofs.Passed.{sound_opening}
 use Rattle.reader.specs.Reader.{record_bytes}
 use Rattle.judged.specs.Judged.{Right}
 use Rattle.returned.specs.Returned.{SomeWrong, Agrees, file_faults, AgreeReply}
-use Rattle.returned.specs.Work.{RightBefore, AllRight, Judged}
+use Rattle.returned.specs.Work.{AllRight, Judged}
 
 -- where the number is 0, no test before other faults holds
 tests_none : (ts : List (ℕ × Bool)) → Numbered ts → (us : List (ℕ × Type 0)) (k : ℕ) → FirstFault (tested ts ++ us) k → k ≡ 0 → first_fault ts ≡ 0
@@ -29,36 +28,9 @@ tests_none ((m, true) ∷ ts) n us k (inr f) z = absurd (f.0 refl)
 tests_none ((m, false) ∷ ts) n us k (inl f) z = absurd (omega (arith, f.1, n.0))
 tests_none ((m, false) ∷ ts) n us k (inr f) z = tests_none ts n.1 us k f.1 z
 
--- The records before a place are right.
-pub record Judging (x : Text) (l : Limits) (file : List ℕ) (at : ℕ) : Type 0 where
-  pub low : at ≤ length file
-  pub on : at % 6 ≡ 0
-  pub right : RightBefore x l file at
-
 module _ (x : Text) (l : Limits) (file : List ℕ) where
-  pub judge_start : Judging x l file 0
-  judge_start = record { low = omega arith; on = refl; right = λ k h. absurd (omega arith) }
-
-  module _ (at : ℕ) (j : Judging x l file at) (even : length file % 6 ≡ 0) where
-    pub judge_end : length file ≤ at → AllRight x l file
-    judge_end h = λ k low. j.right k (let y = j.low in omega arith)
-
-    module _ (low : at < length file) where
-      pub judge_whole : at + 6 ≤ length file
-      judge_whole = let o = j.on in omega arith
-
-      pub judge_wrong : (Right x l (record_bytes file at) → ⊥) → SomeWrong x l file
-      judge_wrong w =
-          let e : at ≡ 6 * (at / 6) = let o = j.on in omega arith in
-          record { number = at / 6; inside = let o = j.on in omega arith; wrong = subst (λ (k : ℕ). Right x l (record_bytes file k) → ⊥) e w }
-
-      pub judge_next : Right x l (record_bytes file at) → Judging x l file (at + 6)
-      judge_next r =
-          record {
-            low = judge_whole;
-            on = let o = j.on in omega arith;
-            right = λ k h. ⊎_elim (λ (y : at ≤ 6 * k). let e : at ≡ 6 * k = let o = j.on in omega arith in subst (λ (z : ℕ). Right x l (record_bytes file z)) e r) (λ (y : 6 * k < at). j.right k y) (le_or_lt at (6 * k));
-          }
+  pub judge_end : ((k : ℕ) → k < length file / 6 → Right x l (record_bytes file (6 * k))) → length file % 6 ≡ 0 → AllRight x l file
+  judge_end right even k low = right k (omega arith)
 
   -- the tests that need no record
   abbrev Later : List (ℕ × Bool)
@@ -79,40 +51,39 @@ module _ (x : Text) (l : Limits) (file : List ℕ) where
   refused : (k : ℕ) → k ≡ first_fault (file_faults x l file) → (k ≡ 0 → ⊥) → AgreeReply x l file k
   refused k e n = record { number = tested_first _ k (file_faults x l file) (omega arith) e; yes = λ z. absurd (n z) }
 
-  module _ (j : ℕ) (e : j ≡ first_fault (opening_faults x l)) where
-    pub reply_opening : (j ≡ 0 → ⊥) → AgreeReply x l file j
+  pub reply_opening : (k : ℕ) → k ≡ first_fault (opening_faults x l) → (k ≡ 0 → ⊥) → AgreeReply x l file k
+  unfolding file_faults
+  reply_opening k e n = refused k (fault_first (opening_faults x l) Later k e n) n
+
+  module _ (z : 0 ≡ first_fault (opening_faults x l)) where
+    pub opening_sound : SoundText x × SoundLimits l
+    opening_sound = sound_opening x l (sym z)
+
+    later : (k : ℕ) → k ≡ first_fault Later → k ≡ first_fault (file_faults x l file)
     unfolding file_faults
-    reply_opening n = refused j (fault_first (opening_faults x l) Later j e n) n
+    later k = fault_next (opening_faults x l) Later (opening_numbered x l) 0 k z refl
 
-    module _ (z : j ≡ 0) where
-      pub opening_sound : SoundText x × SoundLimits l
-      opening_sound = sound_opening x l (sym e ∙ z)
+    pub reply_half : (length file % 6 ≡ 0 → ⊥) → AgreeReply x l file 15
+    unfolding first_fault
+    reply_half h = refused 15 (later 15 (simp (ne_eqb _ _ h))) (λ y. omega arith)
 
-      later : (k : ℕ) → k ≡ first_fault Later → k ≡ first_fault (file_faults x l file)
-      unfolding file_faults
-      later k = fault_next (opening_faults x l) Later (opening_numbered x l) j k e z
-
-      pub reply_half : (length file % 6 ≡ 0 → ⊥) → AgreeReply x l file 15
+    module _ (even : length file % 6 ≡ 0) where
+      passed : first_fault (file_faults x l file) ≡ 0
       unfolding first_fault
-      reply_half h = refused 15 (later 15 (simp (ne_eqb _ _ h))) (λ y. omega arith)
+      passed = sym (later 0 (simp (eq-eqb _ _ even)))
 
-      module _ (even : length file % 6 ≡ 0) where
-        passed : first_fault (file_faults x l file) ≡ 0
-        unfolding first_fault
-        passed = sym (later 0 (simp (eq-eqb _ _ even)))
+      pub reply_wrong : SomeWrong x l file → AgreeReply x l file 16
+      reply_wrong w = record { number = tested_next _ 16 (file_faults x l file) numbered passed (inl (w, refl)); yes = λ y. absurd (omega arith) }
 
-        pub reply_wrong : SomeWrong x l file → AgreeReply x l file 16
-        reply_wrong w = record { number = tested_next _ 16 (file_faults x l file) numbered passed (inl (w, refl)); yes = λ y. absurd (omega arith) }
+      module _ (all : AllRight x l file) where
+        none_wrong : SomeWrong x l file → ⊥
+        none_wrong w = w.wrong (all w.number w.inside)
 
-        module _ (all : AllRight x l file) where
-          none_wrong : SomeWrong x l file → ⊥
-          none_wrong w = w.wrong (all w.number w.inside)
+        pub reply_no : (Agrees x l file → ⊥) → AgreeReply x l file 17
+        reply_no n = record { number = tested_next _ 17 (file_faults x l file) numbered passed (inr (none_wrong, inl (n, refl))); yes = λ y. absurd (omega arith) }
 
-          pub reply_no : (Agrees x l file → ⊥) → AgreeReply x l file 17
-          reply_no n = record { number = tested_next _ 17 (file_faults x l file) numbered passed (inr (none_wrong, inl (n, refl))); yes = λ y. absurd (omega arith) }
-
-          pub reply_yes : Agrees x l file → AgreeReply x l file 0
-          reply_yes a = record { number = tested_next _ 0 (file_faults x l file) numbered passed (inr (none_wrong, inr ((λ n. n a), refl))); yes = λ _. a }
+        pub reply_yes : Agrees x l file → AgreeReply x l file 0
+        reply_yes a = record { number = tested_next _ 0 (file_faults x l file) numbered passed (inr (none_wrong, inr ((λ n. n a), refl))); yes = λ _. a }
 
 -- What the judgement tells.
 pub judged_yes : (t : Bool) (x : Text) (l : Limits) (file : List ℕ) → Judged t x l file → t ≡ true → AllRight x l file

@@ -69,7 +69,7 @@ module _ (x : Text) (l : Limits) where
     one_answer j k a b = fault_unique (agree_faults x l file) j k a.number b.number
 
     yes_reply : first_fault (opening_faults x l) ≡ 0 → Agrees x l file → AgreeReply x l file 0
-    yes_reply z a = reply_yes x l file 0 (sym z) refl (agrees_even a) (agrees_right a) a
+    yes_reply z a = reply_yes x l file (sym z) (agrees_even a) (agrees_right a) a
 
     pub agree_laws : AgreeLaws x l file
     unfolding file_faults opening_faults text_faults string_faults map_faults alphabet_faults limits_faults

@@ -2,40 +2,39 @@
 #![tactic(auto)]
 
 ghost use Rattle.std.specs.Prelude.{◌≡◌, ◌%◌, length};
-ghost use Rattle.terms.specs.Texts.{text};
+ghost use Rattle.terms.specs.Refusals.{fault_of};
 ghost use Rattle.terms.specs.Passed.{SoundText, SoundLimits};
+ghost use Rattle.texts.specs.Lent.{text_of};
 ghost use Rattle.returned.specs.Returned.{AgreeReply};
-ghost use Rattle.returned.specs.Work.{Judged, Decides, gap_count};
+ghost use Rattle.returned.specs.Work.{Judged, Decides};
 
-use judged::right;
+use judged::Judge;
 use reader::{GAP, record_at};
 use records::SIZE;
 use terms::limits::Limits;
+use terms::refusal::Refusal;
+use texts::Text;
 use texts::flags::own_partner;
 
 // Whether every record is a right part.
-fn all_right(s: &[u8], map: &[u8], limits: Limits, file: &[u8], alphabet: &[u8]) -> bool
-    requires sound_text { SoundText (text s.now map.now alphabet.now) }
+fn all_right(text: Text, limits: Limits, file: &[u8]) -> bool
+    requires sound_text { SoundText (text_of text) }
     requires sound_limits { SoundLimits limits }
     requires whole_records { length file.now % 6 ≡ 0 }
-    ensures { Judged result (text s.now map.now alphabet.now) limits file.now }
+    ensures { Judged result (text_of text.entry) limits file.now }
 {
-    let own = own_partner(map, alphabet);
-    let mut at = 0;
-    while at < file.len() {
-        if !right(s, map, limits, file, at, own) {
+    let judge = Judge {
+        letters: text.letters,
+        map: text.map,
+        limits,
+        own: own_partner(text.map, text.alphabet),
+    };
+    for k in 0..file.len() / SIZE {
+        if !judge.right(file, SIZE * k) {
             return false;
         }
-        at += SIZE;
     }
     true
-}
-
-// 1 for a gap's record, else 0.
-fn gap_count(tag: u8) -> usize
-    ensures { result ≡ gap_count tag }
-{
-    if tag == GAP { 1 } else { 0 }
 }
 
 // Whether right records tile n letters with at most g gaps: each begins where the last ended, and no gap follows a gap.
@@ -43,48 +42,38 @@ fn tiles(file: &[u8], n: usize, g: usize) -> bool
     requires { length file.now % 6 ≡ 0 }
     ensures { Decides result n g file.now }
 {
-    let mut at = 0;
     let mut i = 0;
     let mut gaps = 0;
-    let mut behind = 0;
-    while at < file.len() {
-        let found = record_at(file, at);
-        let start = found.start;
-        if start != i {
+    let mut behind = false;
+    for k in 0..file.len() / SIZE {
+        let found = record_at(file, SIZE * k);
+        if found.start != i {
             return false;
         }
-        let gap = gap_count(found.tag);
-        if behind + gap == 2 {
+        let gap = found.tag == GAP;
+        if behind && gap {
             return false;
         }
         i += found.length;
-        gaps += gap;
+        gaps += usize::from(gap);
         behind = gap;
-        at += SIZE;
     }
-    if i != n {
-        return false;
-    }
-    gaps <= g
+    i == n && gaps <= g
 }
 
-// Whether returned records are a permitted tiling: 0 says yes, else the number of the first refusal.
-pub fn agree(s: &[u8], map: &[u8], limits: Limits, file: &[u8], alphabet: &[u8]) -> usize
-    ensures { AgreeReply (text s.now map.now alphabet.now) limits file.now result }
+// Whether returned records are a permitted tiling: the first refusal where they are not.
+pub fn agree(text: Text, limits: Limits, file: &[u8]) -> Result<(), Refusal>
+    ensures { AgreeReply (text_of text.entry) limits file.now (fault_of result) }
 {
-    let number = texts::opening_refusal(s, map, limits, alphabet);
-    if number != 0 {
-        return number;
-    }
+    text.check_opening(limits)?;
     if file.len() % SIZE != 0 {
-        return 15;
+        return Err(Refusal::NoWholeRecord);
     }
-    if !all_right(s, map, limits, file, alphabet) {
-        return 16;
+    if !all_right(text, limits, file) {
+        return Err(Refusal::WrongRecord);
     }
-    let g = limits.g;
-    if !tiles(file, s.len(), g) {
-        return 17;
+    if !tiles(file, text.letters.len(), limits.g) {
+        return Err(Refusal::NotATiling);
     }
-    0
+    Ok(())
 }

@@ -1,6 +1,6 @@
 -- No reply is longer than 65,536 bytes. Assumes nothing.
-use mathlib.Core.Path.{◌≡◌, sym, ap, ◌∙◌}
-use mathlib.Core.Bool.{Bool, true, false, not, cond}
+use mathlib.Core.Path.{◌≡◌, refl, sym, ap, ◌∙◌}
+use mathlib.Core.Bool.{Bool, true, not}
 use mathlib.Core.List.{List, [], ◌∷◌}
 use mathlib.Core.Logic.{inl, inr, ⊎_elim}
 use Prim.Native.Nat.{ℕ, ◌+◌, ◌-◌, ◌≤◌, ◌<◌}
@@ -8,18 +8,20 @@ use native.Mathlib.Omega.{arith}
 use borrow.Author.Tests.{eqb-false}
 use lib.Dec.{eqb}
 use lib.ListN.{length, drop}
+use Rattle.std.specs.Prelude.{Result, Ok, Option, None, Some, IfSome}
 use Rattle.terms.specs.Refusals.{first_fault, OneOf}
 use Rattle.terms.specs.Maps.{map_faults}
 use Rattle.terms.specs.Limits.{kind_faults, lengths_faults, limits_faults}
 use Rattle.terms.specs.Alphabets.{alphabet_faults}
 use Rattle.terms.specs.Texts.{Text, text_all, string_faults, text_faults, opening_faults}
 use Rattle.terms.specs.declared.limits.Limits.{Limits}
+use Rattle.terms.specs.declared.refusal.Refusal.{Refusal}
+use Rattle.terms.proofs.Named.{AllNamed, fault_named, opening_named}
 use Rattle.terms.proofs.Refusals.{numbers, fault_listed, opening_parts}
 use Rattle.terms.proofs.Passed.{passed, not_off, sound_limits, sound_opening}
 use Rattle.tilings.specs.Tilings.{Part, Given}
 use Rattle.boards.specs.Pieces.{board}
-use Rattle.questions.specs.Tiling.{figures}
-use Rattle.questions.specs.declared.Answer.{Answer}
+use Rattle.questions.specs.Tiling.{number_in, figures}
 use Rattle.changes.specs.Changes.{done_of, back_of, length_by, limits_by, place_fault, letter_fault, edit_faults, accepts}
 use Rattle.changes.specs.declared.Change.{Change}
 use Rattle.changes.specs.declared.Change.TheVariants.{Letter as ChangedLetter, Kind as DidKind, Lengths as DidLengths, PutIn as DidPutIn, TakeOut as DidTakeOut}
@@ -34,13 +36,13 @@ use Rattle.sheet.specs.declared.Said.{Said}
 use Rattle.sheet.specs.declared.Sheet.{Sheet}
 use Rattle.sheet.specs.declared.Reply.{Reply}
 use Rattle.sheet.proofs.Asked.{sheet_laws}
-use Rattle.sheet.proofs.Replying.{answered_either, change_sound, back_accepted, done_accepted}
+use Rattle.sheet.proofs.Replying.{answered_either, change_named, change_sound, back_accepted, done_accepted}
 use Rattle.sheet.proofs.Within.{bounds}
 use Rattle.lines.specs.Lines.{change, Short, Proper, Reads}
 use Rattle.lines.specs.declared.Line.{Line}
-use Rattle.lines.specs.declared.Line.TheVariants.{Open, Change as Changing, TakeBack, PutAgain, Question, Unknown}
-use Rattle.replies.specs.Replies.{refusal_text, said_text, restored_text, tiling_text}
-use Rattle.desk.specs.Desk.{map_of, with_sheet, opening, calling, Shown, Does}
+use Rattle.lines.specs.declared.Line.TheVariants.{Open, Change as Changing, TakeBack, PutAgain, Question}
+use Rattle.replies.specs.Replies.{said_text, restored_text, tiling_text}
+use Rattle.desk.specs.Desk.{map_of, opening, called, calling, Shown, Does}
 use Rattle.desk.specs.declared.Desk.{Desk}
 use Rattle.rooms.specs.Rooms.{LettersOf, Bytes, RepliesFit}
 use Rattle.rooms.proofs.Rooms.{holds}
@@ -52,11 +54,11 @@ listed_short k [] h o = absurd o
 listed_short k (n ∷ ns) h (inl e) = omega (arith, h.0)
 listed_short k (n ∷ ns) h (inr o) = listed_short k ns h.1 o
 
--- a call says short numbers where its refusals' are, and those of what it accepts
-answered_small : (faults : List (ℕ × Bool)) (s : Sheet) (accepted : Reply) → Short (numbers faults) → (0 ≡ first_fault faults → Small accepted.said) → Small (answered faults s accepted).said
-answered_small faults s accepted h a =
+-- a call says short numbers where its refusals' are, each of which it names, and those of what it accepts
+answered_small : (faults : List (ℕ × Bool)) (s : Sheet) (accepted : Reply) → AllNamed faults → Short (numbers faults) → (0 ≡ first_fault faults → Small accepted.said) → Small (answered faults s accepted).said
+answered_small faults s accepted n h a =
     answered_either faults s accepted (λ r. Small r.said)
-    (λ _. record { number = listed_short (first_fault faults) (0 ∷ numbers faults) (omega arith, h) (fault_listed faults); values = (omega arith, (omega arith, (omega arith, (omega arith, tt)))) })
+    (λ z. record { number = rw (fault_named faults n z) (listed_short (first_fault faults) (0 ∷ numbers faults) (omega arith, h) (fault_listed faults)); values = (omega arith, (omega arith, (omega arith, (omega arith, tt)))) })
     a
 
 -- an edit that writes a letter writes a byte
@@ -106,7 +108,7 @@ module _ (s : Sheet) (b : Bytes s) where
 
   -- an edit that is accepted, with k changes standing
   edit_small : (e : Edit) (k : ℕ) → in_bounds s ≡ true → accepts s.n s.alphabet e ≡ true → ByteOf e → k ≤ 64
-      → Small (said_of (replacing e s.letters s.limits) (length_by e s.n) k (limits_by e s.limits))
+      → Small (Ok (said_of (replacing e s.letters s.limits) (length_by e s.n) k (limits_by e s.limits)))
   unfolding replacing
   edit_small (EditLetter p c) k i a h few =
       let n = (bounds s i).letters in
@@ -134,7 +136,7 @@ module _ (s : Sheet) (b : Bytes s) where
   change_small : (e : Edit) → ByteOf e → Small (change_call s e).said
   unfolding changed
   change_small e h =
-      answered_small (change_faults s e) _ _ (faults_short e)
+      answered_small (change_faults s e) _ _ (change_named s e) (faults_short e)
       (λ z. let w = change_sound s e z in edit_small e (s.standing + 1) w.0 w.1 h (omega (arith, w.2)))
 
   -- past 24 and the test after it there is a change to take back, or to put again
@@ -147,7 +149,7 @@ module _ (s : Sheet) (b : Bytes s) where
   back_small : Small (take_back_call s).said
   unfolding take_back_faults applied
   back_small =
-      answered_small (take_back_faults s) _ _ (omega arith, (omega arith, tt))
+      answered_small (take_back_faults s) _ _ (refl, (refl, tt)) (omega arith, (omega arith, tt))
       (λ e.
       let (i, some) = there_is 8 s.standing (omega arith) e in
       edit_small (back_of (newest_of s)) (s.standing - 1) i (back_accepted s i some)
@@ -157,7 +159,7 @@ module _ (s : Sheet) (b : Bytes s) where
   again_small : Small (put_again_call s).said
   unfolding put_again_faults applied
   again_small =
-      answered_small (put_again_faults s) _ _ (omega arith, (omega arith, tt))
+      answered_small (put_again_faults s) _ _ (refl, (refl, tt)) (omega arith, (omega arith, tt))
       (λ e.
       let (i, some) = there_is 9 s.taken (omega arith) e in
       edit_small (done_of (last_taken s)) (s.standing + 1) i (done_accepted s i some)
@@ -167,45 +169,46 @@ module _ (s : Sheet) (b : Bytes s) where
 open_small : (x : Text) (l : Limits) → Small (open_call x l).said
 unfolding opening_faults text_faults string_faults map_faults alphabet_faults limits_faults
 open_small x l =
-    answered_small (opening_faults x l) _ _ (omega arith, (omega arith, (omega arith, (omega arith, (omega arith, (omega arith, (omega arith, tt)))))))
+    answered_small (opening_faults x l) _ _ (opening_named x l) (omega arith, (omega arith, (omega arith, (omega arith, (omega arith, (omega arith, (omega arith, tt)))))))
     (λ e. record { number = omega arith; values = (omega (arith, (sound_opening x l (sym e)).0.short), (omega arith, tt)) })
 
 -- a question: its refusal, or the tiling given
 shown_length : (s : Sheet) (t t' m m' out : List ℕ) → Shown s t t' m m' out → length out ≤ 65536
 shown_length s t t' m m' out p =
-    ⊎_elim (λ r. rw r.1 (omega (arith, refusal_length p.answer.number number))) (λ r. rw r.3 (given r.0 r.1 r.2 p.reply)) p.printed
+    ⊎_elim (λ r. rw r.1 (omega (arith, refusal_length (number_in p.answer) number))) (λ r. rw r.3 (given r.0 r.1 r.2 p.reply)) p.printed
   where
-    number : p.answer.number < 10000
+    number : number_in p.answer < 10000
     number =
-        listed_short p.answer.number (0 ∷ 24 ∷ 11 ∷ 10 ∷ 12 ∷ []) (omega arith, (omega arith, (omega arith, (omega arith, (omega arith, tt)))))
+        listed_short (number_in p.answer) (0 ∷ 24 ∷ 11 ∷ 10 ∷ 12 ∷ []) (omega arith, (omega arith, (omega arith, (omega arith, (omega arith, tt)))))
         ((sheet_laws s t m).listed t' m' p.answer p.reply)
 
     given : (ps : List Part) → Given (board (text_of s) s.limits) 0 s.limits.g ps → p.answer ≡ figures ps → SheetReply s t t' m m' p.answer → length (tiling_text (text_of s) ps) ≤ 65536
-    given ps g e (inl r) = let z : ◌≡◌ {A = ℕ} 24 0 = ap (λ (a : Answer). a.number) (sym r.1 ∙ e) in absurd (omega arith)
+    given ps g e (inl r) = let z : ◌≡◌ {A = ℕ} 24 0 = ap number_in (sym r.1 ∙ e) in absurd (omega arith)
     given ps g e (inr r) =
         let (x, l) = holds s r.0 in
         omega (arith, tiling_length (text_of s) s.limits x.short l.near s.limits.g ps l.few g.permitted)
 
 -- a call: 14, or what it says
-calling_length : (d : Desk) (r : Reply) (show : Said → List ℕ) → length (show r.said) ≤ 29 → length (calling d r show).1 ≤ 65536
+calling_length : (d : Desk) → IfSome d.sheet Bytes → (call : Sheet → Reply) (show : Result Said Refusal → List ℕ) → ((s : Sheet) → Bytes s → length (show (call s).said) ≤ 29)
+    → length (calling d call show).1 ≤ 65536
 unfolding calling
-calling_length d r show h = go d.opened
+calling_length d b call show h = go d.sheet b
   where
-    go : (t : Bool) → length (cond {A = Desk × List ℕ} t (with_sheet r.sheet, show r.said) (d, refusal_text 14)).1 ≤ 65536
-    go true = omega arith
-    go false = omega (arith, refusal_length 14 (omega arith))
+    go : (o : Option Sheet) → IfSome o Bytes → length (called d call show o).1 ≤ 65536
+    go None b = omega (arith, refusal_length 14 (omega arith))
+    go (Some s) b = omega (arith, h s b)
 
 -- every line's reply
-module _ (d : Desk) (xs : List ℕ) (b : Bytes d.sheet) (t t' m m' : List ℕ) where
-  text_length : (line : Line) (o : Desk × List ℕ) → Reads xs line → Does d xs line t t' m m' o → length o.1 ≤ 65536
+module _ (d : Desk) (xs : List ℕ) (b : IfSome d.sheet Bytes) (t t' m m' : List ℕ) where
+  text_length : (line : Option Line) (o : Desk × List ℕ) → Reads xs line → Does d xs line t t' m m' o → length o.1 ≤ 65536
   unfolding opening
-  text_length (Open l c from) o q p = rw p.0 (omega (arith, said_length _ (open_small (text_all (drop from xs) (map_of c)) l)))
-  text_length (Changing e) o q p = rw p.0 (calling_length d _ said_text (omega (arith, said_length _ (change_small d.sheet b e (asked_byte e q.proper)))))
-  text_length TakeBack o q p = rw p.0 (calling_length d _ (restored_text 66) (restored_length 66 _ (back_small d.sheet b)))
-  text_length PutAgain o q p = rw p.0 (calling_length d _ (restored_text 65) (restored_length 65 _ (again_small d.sheet b)))
-  text_length Question o q (inl p) = rw p.1 (omega (arith, refusal_length 14 (omega arith)))
-  text_length Question o q (inr p) = shown_length d.sheet t t' m m' o.1 p.2
-  text_length Unknown o q p = rw p.0 (omega (arith, refusal_length 13 (omega arith)))
+  text_length (Some (Open l c from)) o q p = rw p.0 (omega (arith, said_length _ (open_small (text_all (drop from xs) (map_of c)) l)))
+  text_length (Some (Changing e)) o q p = rw p.0 (calling_length d b _ said_text (λ s i. omega (arith, said_length _ (change_small s i e (asked_byte e q.proper)))))
+  text_length (Some TakeBack) o q p = rw p.0 (calling_length d b _ (restored_text 66) (λ s i. restored_length 66 _ (back_small s i)))
+  text_length (Some PutAgain) o q p = rw p.0 (calling_length d b _ (restored_text 65) (λ s i. restored_length 65 _ (again_small s i)))
+  text_length (Some Question) o q (inl p) = rw p.1 (omega (arith, refusal_length 14 (omega arith)))
+  text_length (Some Question) o q (inr p) = shown_length p.0 t t' m m' o.1 p.3
+  text_length None o q p = rw p.0 (omega (arith, refusal_length 13 (omega arith)))
 
 -- so the room holds the whole text
 pub replies_fit : RepliesFit

@@ -1,12 +1,13 @@
 -- How long the text of a reply is, where its numbers have at most 4 digits. Assumes nothing.
-use mathlib.Core.Bool.{Bool, true, false, cond}
 use mathlib.Core.List.{List, [], ◌∷◌}
 use Prim.Native.Nat.{ℕ, ◌+◌, ◌*◌, ◌≤◌, ◌<◌}
 use native.Mathlib.Omega.{arith}
-use lib.Dec.{eqb}
 use lib.ListN.{length, length-append}
+use Rattle.std.specs.Prelude.{Result, Ok, Err}
+use Rattle.terms.specs.Refusals.{refusal_number}
 use Rattle.terms.specs.Texts.{Text, size}
 use Rattle.terms.specs.declared.limits.Limits.{Limits}
+use Rattle.terms.specs.declared.refusal.Refusal.{Refusal}
 use Rattle.tilings.specs.Tilings.{Part, piece, gap, gaps, total, Tiles, Permitted}
 use Rattle.tilings.specs.Laws.{lengths, length_of}
 use Rattle.tilings.proofs.Covers.{covers, gaps_fit}
@@ -15,7 +16,7 @@ use Rattle.boards.proofs.Laws.{board_laws, piece_errors}
 use Rattle.records.specs.Records.{tag_of, errors_of}
 use Rattle.sheet.specs.Calls.{number_of, values_of}
 use Rattle.sheet.specs.declared.Said.{Said}
-use Rattle.sheet.specs.declared.Said.TheVariants.{Letter as SaidLetter, Kind as SaidKind, Lengths as SaidLengths, PutIn as SaidPutIn, TakeOut as SaidTakeOut, Opened, No}
+use Rattle.sheet.specs.declared.Said.TheVariants.{Letter as SaidLetter, Kind as SaidKind, Lengths as SaidLengths, PutIn as SaidPutIn, TakeOut as SaidTakeOut, Opened}
 use Rattle.printing.specs.Printing.{decimal, fields, printed}
 use Rattle.printing.proofs.Laws.{decimal_short}
 use Rattle.lines.specs.Lines.{Short}
@@ -37,27 +38,24 @@ pub refusal_length : (k : ℕ) → k < 10000 → length (refusal_text k) ≤ 7
 refusal_length k h = line_length 33 (k ∷ []) (h, tt)
 
 -- what a call says, its numbers of at most 4 digits
-pub record Small (w : Said) : Type 0 where
+pub record Small (w : Result Said Refusal) : Type 0 where
   pub number : number_of w < 10000
   pub values : Short (values_of w)
 
 -- the line of a change or an opening, or a refusal
-pub said_length : (w : Said) → Small w → length (said_text w) ≤ 27
-said_length (SaidLetter p old new k) h = omega (arith, line_length 76 (values_of (SaidLetter p old new k)) h.values)
-said_length (SaidKind l k) h = line_length 75 (values_of (SaidKind l k)) h.values
-said_length (SaidLengths l k) h = line_length 77 (values_of (SaidLengths l k)) h.values
-said_length (SaidPutIn p b n k) h = omega (arith, line_length 73 (values_of (SaidPutIn p b n k)) h.values)
-said_length (SaidTakeOut p b n k) h = omega (arith, line_length 88 (values_of (SaidTakeOut p b n k)) h.values)
-said_length (Opened n) h = omega (arith, line_length 79 (values_of (Opened n)) h.values)
-said_length (No k) h = omega (arith, refusal_length k h.number)
+pub said_length : (w : Result Said Refusal) → Small w → length (said_text w) ≤ 27
+said_length (Ok (SaidLetter p old new k)) h = omega (arith, line_length 76 (values_of (Ok (SaidLetter p old new k))) h.values)
+said_length (Ok (SaidKind l k)) h = line_length 75 (values_of (Ok (SaidKind l k))) h.values
+said_length (Ok (SaidLengths l k)) h = line_length 77 (values_of (Ok (SaidLengths l k))) h.values
+said_length (Ok (SaidPutIn p b n k)) h = omega (arith, line_length 73 (values_of (Ok (SaidPutIn p b n k))) h.values)
+said_length (Ok (SaidTakeOut p b n k)) h = omega (arith, line_length 88 (values_of (Ok (SaidTakeOut p b n k))) h.values)
+said_length (Ok (Opened n)) h = omega (arith, line_length 79 (values_of (Ok (Opened n))) h.values)
+said_length (Err e) h = omega (arith, refusal_length (refusal_number e) h.number)
 
 -- after B or A two bytes more
-pub restored_length : (c : ℕ) (w : Said) → Small w → length (restored_text c w) ≤ 29
-restored_length c w h = go (eqb (number_of w) 0)
-  where
-    go : (t : Bool) → length (cond t (c ∷ 32 ∷ said_text w) (said_text w)) ≤ 29
-    go true = omega (arith, said_length w h)
-    go false = omega (arith, said_length w h)
+pub restored_length : (c : ℕ) (w : Result Said Refusal) → Small w → length (restored_text c w) ≤ 29
+restored_length c (Ok w) h = omega (arith, said_length (Ok w) h)
+restored_length c (Err e) h = omega (arith, said_length (Err e) h)
 
 -- of a string of at most 1,000 letters, with at most 15 errors a piece
 module _ (x : Text) (l : Limits) (n : size x ≤ 1000) (d : l.d ≤ 15) where

@@ -15,8 +15,7 @@ use Rattle.terms.proofs.Passed.{sound_opening}
 use Rattle.terms.proofs.Refusals.{opening_numbered, fault_goes_on}
 use Rattle.tilings.specs.Tilings.{entries}
 use Rattle.boards.proofs.Laws.{board_laws}
-use Rattle.questions.specs.Tiling.{table_faults, HandsOver, TilingReply}
-use Rattle.questions.specs.declared.Answer.{Answer}
+use Rattle.questions.specs.Tiling.{Answer, number_in, table_faults, HandsOver, TilingReply}
 use Rattle.questions.proofs.Handed.{handing_whole}
 use Rattle.sheet.specs.Bounds.{text_of, in_bounds}
 use Rattle.sheet.specs.declared.Sheet.{Sheet}
@@ -44,17 +43,17 @@ module _ (s : Sheet) (w : in_bounds s ≡ true) where
 
   module _ (room room' : List ℕ) (r : Answer) (h : 6000 ≤ length room) where
     -- the tiling given has at most as many parts as letters, 6 bytes each
-    handed : HandsOver (text_of s) s.limits room room' r → OneOf r.number (0 ∷ 24 ∷ 10 ∷ [])
-    handed (inl a) = inr (inr (inl (ap (λ (x : Answer). x.number) a.1)))
+    handed : HandsOver (text_of s) s.limits room room' r → OneOf (number_in r) (0 ∷ 24 ∷ 10 ∷ [])
+    handed (inl a) = inr (inr (inl (ap number_in a.1)))
     handed (inr a) =
         let l : length a.0 ≤ size (text_of s) = (board_laws (text_of s) s.limits).few s.limits.g a.0 a.1.permitted in
-        inl (ap (λ (x : Answer). x.number) (a.2 ∙ ap (λ (y : Answer × List ℕ). y.0) (handing_whole (text_of s) a.0 room (omega (arith, holds.0.short)))))
+        inl (ap number_in (a.2 ∙ ap (λ (y : Answer × List ℕ). y.0) (handing_whole (text_of s) a.0 room (omega (arith, holds.0.short)))))
 
-    replied : (table table' : List ℕ) → 16016 ≤ length table → TilingReply (text_of s) s.limits table table' room room' r → OneOf r.number (0 ∷ 24 ∷ 10 ∷ [])
+    replied : (table table' : List ℕ) → 16016 ≤ length table → TilingReply (text_of s) s.limits table table' room room' r → OneOf (number_in r) (0 ∷ 24 ∷ 10 ∷ [])
     replied table table' t (inl f) =
         let z : 0 < first_fault (table_faults (text_of s) s.limits (length table)) = f.fault in absurd (omega (arith, no_fault (length table) t))
     replied table table' t (inr a) = handed a.handed
 
 pub room_enough : RoomEnough
-room_enough s table table' room room' r t m (inl p) = inr (inl (ap (λ (x : Answer). x.number) p.1))
+room_enough s table table' room room' r t m (inl p) = inr (inl (ap number_in p.1))
 room_enough s table table' room room' r t m (inr p) = replied s p.0 room room' r m table table' t p.1

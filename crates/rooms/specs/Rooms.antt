@@ -1,7 +1,7 @@
 -- The table, the room and the `out` that the call program lends are enough; proved in proofs/.
-use Rattle.std.specs.Prelude.{◌≡◌, List, [], ◌∷◌, ℕ, ◌≤◌, ◌<◌, length, get_or}
+use Rattle.std.specs.Prelude.{◌≡◌, List, [], ◌∷◌, ℕ, ◌≤◌, ◌<◌, length, get_or, IfSome}
 use Rattle.terms.specs.Refusals.{OneOf}
-use Rattle.questions.specs.declared.Answer.{Answer}
+use Rattle.questions.specs.Tiling.{Answer, number_in}
 use Rattle.changes.specs.declared.Change.{Change}
 use Rattle.changes.specs.declared.Change.TheVariants.{Letter, Kind, Lengths, PutIn, TakeOut}
 use Rattle.kept.specs.Lists.{kept_at}
@@ -15,7 +15,7 @@ use Rattle.desk.specs.declared.Turn.{Turn}
 abbrev pub RoomEnough : Type 0
 RoomEnough =
     (s : Sheet) (table table' room room' : List ℕ) (r : Answer)
-    → 16016 ≤ length table → 6000 ≤ length room → SheetReply s table table' room room' r → OneOf r.number (0 ∷ 24 ∷ 10 ∷ [])
+    → 16016 ≤ length table → 6000 ≤ length room → SheetReply s table table' room room' r → OneOf (number_in r) (0 ∷ 24 ∷ 10 ∷ [])
 
 -- A sheet's letters, and those of its kept changes, are bytes, as the sheet's own type has it.
 abbrev pub LettersOf : Change → Type 0
@@ -33,6 +33,6 @@ pub record Bytes (s : Sheet) : Type 0 where
 abbrev pub RepliesFit : Type 0
 RepliesFit =
     (d : Desk) (line table table' room room' out out' : List ℕ) (r : Turn)
-    → Bytes d.sheet
+    → IfSome d.sheet Bytes
     → 65536 ≤ length out
     → (reply : DeskReply d line table table' room room' out out' r) → r.written ≡ length reply.text

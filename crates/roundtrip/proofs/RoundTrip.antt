@@ -15,9 +15,9 @@ use Rattle.tilings.specs.Tilings.{Part, None, Given}
 use Rattle.boards.specs.Pieces.{board}
 use Rattle.records.specs.Records.{record_size, records_from}
 use Rattle.records.proofs.Sizes.{records_length}
-use Rattle.questions.specs.Tiling.{table_faults, refusal, figures, handing}
-use Rattle.questions.specs.declared.Answer.{Answer}
+use Rattle.questions.specs.Tiling.{Answer, number_in, parts_in, table_faults, refusal, figures, handing}
 use Rattle.questions.proofs.Handed.{handing_short, handing_whole}
+use Rattle.questions.proofs.Passing.{refused_number}
 use Rattle.returned.specs.Returned.{Agrees}
 use Rattle.returned.proofs.Laws.{agree_laws}
 use Rattle.roundtrip.specs.RoundTrip.{file_of, ComesBack, WrittenComesBack, SheetComesBack}
@@ -32,7 +32,7 @@ module _ (x : Text) (l : Limits) (room room' : List ℕ) (r : Answer) where
     -- the records written are the file
     file_is : r ≡ figures ps → room' ≡ records_from x 0 ps ++ drop (record_size * length ps) room → file_of r room' ≡ records_from x 0 ps
     file_is e w =
-        ap₂ (λ (n : ℕ) (y : List ℕ). take (record_size * n) y) (ap (λ (a : Answer). a.parts) e) w
+        ap₂ (λ (n : ℕ) (y : List ℕ). take (record_size * n) y) (ap parts_in e) w
         ∙ take_at (records_from x 0 ps) (drop (record_size * length ps) room) (record_size * length ps) (records_length x 0 ps)
 
     back : first_fault (opening_faults x l) ≡ 0 → file_of r room' ≡ records_from x 0 ps → ComesBack x l room' r
@@ -43,22 +43,22 @@ module _ (x : Text) (l : Limits) (room room' : List ℕ) (r : Answer) where
 
 pub written_comes_back : WrittenComesBack
 written_comes_back x l t t' room room' r (inl f) z =
-    let k : r.number ≡ first_fault (table_faults x l (length t)) = ap (λ (a : Answer). a.number) f.reply in
+    let k : number_in r ≡ first_fault (table_faults x l (length t)) = refused_number f in
     let h : 0 < first_fault (table_faults x l (length t)) = f.fault in
     absurd (omega arith)
 written_comes_back x l t t' room room' r (inr a) z =
     ⊎_elim
-    (λ (w : None (board x l) 0 l.g × (r ≡ refusal 10) × (room' ≡ room)). absurd (let k : r.number ≡ 10 = ap (λ (y : Answer). y.number) w.1 in omega arith))
+    (λ (w : None (board x l) 0 l.g × (r ≡ refusal 10) × (room' ≡ room)). absurd (let k : number_in r ≡ 10 = ap number_in w.1 in omega arith))
     (λ (w : (ps : List Part) × Given (board x l) 0 l.g ps × (r ≡ (handing x ps room).0) × (room' ≡ (handing x ps room).1)).
     ⊎_elim
     (λ (h : record_size * length w.0 ≤ length room).
     let e = handing_whole x w.0 room h in
     back x l room room' r w.0 w.1 (opening_passed x l room room' r (length t) a.fault) (file_is x l room room' r w.0 w.1 (w.2 ∙ ap (λ (y : Answer × List ℕ). y.0) e) (w.3 ∙ ap (λ (y : Answer × List ℕ). y.1) e)))
     (λ (h : length room < record_size * length w.0).
-    absurd (let k : r.number ≡ 12 = ap (λ (y : Answer). y.number) (w.2 ∙ ap (λ (y : Answer × List ℕ). y.0) (handing_short x w.0 room h)) in omega arith))
+    absurd (let k : number_in r ≡ 12 = ap number_in (w.2 ∙ ap (λ (y : Answer × List ℕ). y.0) (handing_short x w.0 room h)) in omega arith))
     (le_or_lt (record_size * length w.0) (length room)))
     a.handed
 
 pub sheet_comes_back : SheetComesBack
-sheet_comes_back s t t' room room' r (inl f) z = absurd (let k : r.number ≡ 24 = ap (λ (y : Answer). y.number) f.1 in omega arith)
+sheet_comes_back s t t' room room' r (inl f) z = absurd (let k : number_in r ≡ 24 = ap number_in f.1 in omega arith)
 sheet_comes_back s t t' room room' r (inr a) z = written_comes_back _ _ t t' room room' r a.1 z

@@ -5,8 +5,7 @@ use Rattle.terms.specs.declared.limits.Limits.{Limits}
 use Rattle.tilings.specs.Tilings.{Part, Given}
 use Rattle.boards.specs.Pieces.{board}
 use Rattle.records.specs.Records.{record_size}
-use Rattle.questions.specs.Tiling.{TilingReply}
-use Rattle.questions.specs.declared.Answer.{Answer}
+use Rattle.questions.specs.Tiling.{Answer, number_in, parts_in, TilingReply}
 use Rattle.sheet.specs.Bounds.{text_of}
 use Rattle.sheet.specs.Question.{SheetReply}
 use Rattle.sheet.specs.declared.Sheet.{Sheet}
@@ -15,7 +14,7 @@ use Rattle.returned.specs.Returned.{AgreeReply}
 
 -- The file that a question wrote into a room: parts × 6 bytes.
 abbrev pub file_of : Answer → List ℕ → List ℕ
-file_of r room = take (record_size * r.parts) room
+file_of r room = take (record_size * parts_in r) room
 
 -- The reader hands out the parts of the tiling given, and whatever the second question answers is yes.
 pub record ComesBack (x : Text) (l : Limits) (room : List ℕ) (r : Answer) : Type 0 where
@@ -27,8 +26,8 @@ pub record ComesBack (x : Text) (l : Limits) (room : List ℕ) (r : Answer) : Ty
 -- So for every accepted question without a sheet, and on a sheet with its letters, map and limits.
 abbrev pub WrittenComesBack : Type 0
 WrittenComesBack =
-    (x : Text) (l : Limits) (table table' room room' : List ℕ) (r : Answer) → TilingReply x l table table' room room' r → r.number ≡ 0 → ComesBack x l room' r
+    (x : Text) (l : Limits) (table table' room room' : List ℕ) (r : Answer) → TilingReply x l table table' room room' r → number_in r ≡ 0 → ComesBack x l room' r
 
 abbrev pub SheetComesBack : Type 0
 SheetComesBack =
-    (s : Sheet) (table table' room room' : List ℕ) (r : Answer) → SheetReply s table table' room room' r → r.number ≡ 0 → ComesBack (text_of s) s.limits room' r
+    (s : Sheet) (table table' room room' : List ℕ) (r : Answer) → SheetReply s table table' room room' r → number_in r ≡ 0 → ComesBack (text_of s) s.limits room' r

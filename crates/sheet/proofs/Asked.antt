@@ -18,9 +18,9 @@ use Rattle.terms.proofs.Order.{le_or_lt}
 use Rattle.terms.proofs.Refusals.{opening_numbered, string_passes, text_passes, fault_stays, fault_goes_on, fault_listed, one_of_append}
 use Rattle.tilings.specs.Tilings.{Part, entries}
 use Rattle.records.specs.Records.{record_size}
-use Rattle.questions.specs.Tiling.{table_faults, handing, TilingReply}
-use Rattle.questions.specs.declared.Answer.{Answer}
+use Rattle.questions.specs.Tiling.{Answer, number_in, table_faults, handing, TilingReply}
 use Rattle.questions.proofs.Handed.{handing_short, handing_whole}
+use Rattle.questions.proofs.Passing.{refused_number}
 use Rattle.questions.proofs.Readers.{one_reply}
 use Rattle.sheet.specs.Bounds.{text_of, in_bounds}
 use Rattle.sheet.specs.Question.{SheetReply, SheetLaws}
@@ -35,37 +35,37 @@ module _ (x : Text) (l : Limits) where
 
   module _ (t t' room room' : List ℕ) (r : Answer) (p : TilingReply x l t t' room room' r) where
     -- A fault of the opening's is the question's.
-    pub same_number : (first_fault (opening_faults x l) ≡ 0 → ⊥) → r.number ≡ first_fault (opening_faults x l)
+    pub same_number : (first_fault (opening_faults x l) ≡ 0 → ⊥) → number_in r ≡ first_fault (opening_faults x l)
     unfolding table_faults
     same_number n = go p
       where
         stays : first_fault (table_faults x l (length t)) ≡ first_fault (opening_faults x l)
         stays = fault_stays (opening_faults x l) _ (omega arith)
 
-        go : TilingReply x l t t' room room' r → r.number ≡ first_fault (opening_faults x l)
-        go (inl f) = ap (λ (a : Answer). a.number) f.reply ∙ stays
+        go : TilingReply x l t t' room room' r → number_in r ≡ first_fault (opening_faults x l)
+        go (inl f) = refused_number f ∙ stays
         go (inr a) = absurd (n (sym stays ∙ a.fault))
 
     -- With no fault of the opening's the tests can only give 11, and what is handed over 10, 12 or 0.
-    pub late : first_fault (opening_faults x l) ≡ 0 → OneOf r.number (0 ∷ 11 ∷ 10 ∷ 12 ∷ [])
+    pub late : first_fault (opening_faults x l) ≡ 0 → OneOf (number_in r) (0 ∷ 11 ∷ 10 ∷ 12 ∷ [])
     unfolding table_faults
     late e = go p
       where
         goes : first_fault (table_faults x l (length t)) ≡ first_fault ((11, ltb (length t) (entries (size x) l.g)) ∷ [])
         goes = fault_goes_on (opening_faults x l) _ (opening_numbered x l) e
 
-        given : (ps : List Part) → r ≡ (handing x ps room).0 → OneOf r.number (0 ∷ 11 ∷ 10 ∷ 12 ∷ [])
+        given : (ps : List Part) → r ≡ (handing x ps room).0 → OneOf (number_in r) (0 ∷ 11 ∷ 10 ∷ 12 ∷ [])
         given ps q =
             ⊎_elim
-            (λ h. inl (ap (λ (a : Answer). a.number) q ∙ ap (λ (a : Answer × List ℕ). a.0.number) (handing_whole x ps room h)))
-            (λ h. inr (inr (inr (inl (ap (λ (a : Answer). a.number) q ∙ ap (λ (a : Answer × List ℕ). a.0.number) (handing_short x ps room h))))))
+            (λ h. inl (ap number_in q ∙ ap (λ (a : Answer × List ℕ). number_in a.0) (handing_whole x ps room h)))
+            (λ h. inr (inr (inr (inl (ap number_in q ∙ ap (λ (a : Answer × List ℕ). number_in a.0) (handing_short x ps room h))))))
             (le_or_lt (record_size * length ps) (length room))
 
-        go : TilingReply x l t t' room room' r → OneOf r.number (0 ∷ 11 ∷ 10 ∷ 12 ∷ [])
+        go : TilingReply x l t t' room room' r → OneOf (number_in r) (0 ∷ 11 ∷ 10 ∷ 12 ∷ [])
         go (inl f) =
-            one_of_append r.number (0 ∷ 11 ∷ []) (10 ∷ 12 ∷ [])
-            (rw (sym (ap (λ (a : Answer). a.number) f.reply ∙ goes)) at (fault_listed ((11, ltb (length t) (entries (size x) l.g)) ∷ [])))
-        go (inr a) = ⊎_elim (λ h. inr (inr (inl (ap (λ (a : Answer). a.number) h.1)))) (λ h. given h.0 h.2) a.handed
+            one_of_append (number_in r) (0 ∷ 11 ∷ []) (10 ∷ 12 ∷ [])
+            (rw (sym (refused_number f ∙ goes)) at (fault_listed ((11, ltb (length t) (entries (size x) l.g)) ∷ [])))
+        go (inr a) = ⊎_elim (λ h. inr (inr (inl (ap number_in h.1)))) (λ h. given h.0 h.2) a.handed
 
 -- What a sheet in its bounds holds could be opened.
 pub content_opens : (s : Sheet) → in_bounds s ≡ true → first_fault (opening_faults (text_of s) s.limits) ≡ 0
@@ -73,8 +73,8 @@ content_opens s w = (bounds s w).opens
 
 module _ (s : Sheet) (t m : List ℕ) where
   -- Out of bounds 24; in bounds what the question without a sheet gives, the opening's faults left out.
-  listed : (t' m' : List ℕ) (r : Answer) → SheetReply s t t' m m' r → OneOf r.number (0 ∷ 24 ∷ 11 ∷ 10 ∷ 12 ∷ [])
-  listed t' m' r (inl p) = inr (inl (ap (λ (a : Answer). a.number) p.1))
+  listed : (t' m' : List ℕ) (r : Answer) → SheetReply s t t' m m' r → OneOf (number_in r) (0 ∷ 24 ∷ 11 ∷ 10 ∷ 12 ∷ [])
+  listed t' m' r (inl p) = inr (inl (ap number_in p.1))
   listed t' m' r (inr p) = ⊎_elim inl (λ o. inr (inr o)) (late (text_of s) s.limits t t' m m' r p.1 (content_opens s p.0))
 
   -- The question on a sheet has one reply.

@@ -2,23 +2,26 @@
 use mathlib.Core.Path.{◌≡◌, refl, sym, ap, subst, ◌∙◌}
 use mathlib.Core.Bool.{Bool, true, false, not, cond}
 use mathlib.Core.List.{List, [], ◌∷◌, ◌++◌}
-use Prim.Native.Nat.{ℕ, suc, ◌+◌, ◌-◌, ◌<◌}
+use Prim.Native.Nat.{ℕ, suc, ◌-◌, ◌<◌}
 use native.Mathlib.Omega.{arith}
 use borrow.Author.Tests.{eq-eqb, ne_eqb, eqb-true, eqb-false, leb-false}
 use lib.Dec.{leb, eqb}
 use lib.ListN.{length}
-use Rattle.terms.specs.Refusals.{first_fault}
+use Rattle.std.specs.Prelude.{Result, Ok, Err}
+use Rattle.terms.specs.Refusals.{refusal_number, first_fault}
+use Rattle.terms.specs.Limits.{kind_faults, lengths_faults}
 use Rattle.terms.specs.Texts.{Text, opening_faults}
 use Rattle.terms.specs.declared.limits.Limits.{Limits}
+use Rattle.terms.specs.declared.refusal.Refusal.{Refusal}
+use Rattle.terms.proofs.Named.{not_zero, refusal_named, AllNamed, named_append, fault_named}
 use Rattle.terms.proofs.Passed.{passed, not_off}
 use Rattle.terms.proofs.Refusals.{fault_none, fault_first, fault_next}
-use Rattle.changes.specs.Changes.{done_of, back_of, length_by, limits_by, edit_faults, accepts}
+use Rattle.changes.specs.Changes.{done_of, back_of, edit_faults, place_fault, letter_fault, accepts}
 use Rattle.changes.specs.Work.{fits}
 use Rattle.changes.specs.declared.Change.{Change}
-use Rattle.changes.specs.declared.Change.TheVariants.{Letter, Kind, Lengths, PutIn, TakeOut}
 use Rattle.changes.specs.declared.Edit.{Edit}
+use Rattle.changes.specs.declared.Edit.TheVariants.{Letter, Kind, Lengths, PutIn, TakeOut}
 use Rattle.changes.proofs.Accepting.{none_accepts, accepts_fits, edit_numbered}
-use Rattle.shifts.specs.Shifts.{replacing}
 use Rattle.kept.specs.Lists.{kept_accepted}
 use Rattle.kept.specs.Work.{popping}
 use Rattle.kept.specs.declared.Popped.TheVariants.{Change as PoppedChange}
@@ -26,23 +29,18 @@ use Rattle.kept.proofs.Popping.{popped_is}
 use Rattle.kept.proofs.Moving.{newest_back, next_done}
 use Rattle.places.specs.Places.{padded}
 use Rattle.sheet.specs.Bounds.{in_bounds}
-use Rattle.sheet.specs.Calls.{number_of, values_of, refusing, answered, CallReply, said_of, applied, changed, change_faults, newest_of, last_taken, take_back_faults, put_again_faults, opened, blank_sheet, open_call}
+use Rattle.sheet.specs.Calls.{number_of, values_of, refusing, answered, CallReply, applied, changed, change_faults, newest_of, last_taken, take_back_faults, put_again_faults, opened, blank_sheet, open_call}
 use Rattle.sheet.specs.Work.{unchanged_of}
 use Rattle.sheet.specs.declared.Said.{Said}
-use Rattle.sheet.specs.declared.Said.TheVariants.{Letter as SaidLetter, Kind as SaidKind, Lengths as SaidLengths, PutIn as SaidPutIn, TakeOut as SaidTakeOut, Opened, No}
+use Rattle.sheet.specs.declared.Said.TheVariants.{Opened}
 use Rattle.sheet.specs.declared.Sheet.{Sheet}
 use Rattle.sheet.specs.declared.Reply.{Reply}
 use Rattle.sheet.proofs.Within.{bounds}
 
 -- What a refusal says is zeros beside its number, whatever the call.
-said_zeros : (w : Said) → (number_of w ≡ 0 → ⊥) → values_of w ≡ 0 ∷ 0 ∷ 0 ∷ 0 ∷ []
-said_zeros (SaidLetter p old new k) n = absurd (n refl)
-said_zeros (SaidKind l k) n = absurd (n refl)
-said_zeros (SaidLengths l k) n = absurd (n refl)
-said_zeros (SaidPutIn p b m k) n = absurd (n refl)
-said_zeros (SaidTakeOut p b m k) n = absurd (n refl)
-said_zeros (Opened k) n = absurd (n refl)
-said_zeros (No k) n = refl
+said_zeros : (w : Result Said Refusal) → (number_of w ≡ 0 → ⊥) → values_of w ≡ 0 ∷ 0 ∷ 0 ∷ 0 ∷ []
+said_zeros (Ok w) n = absurd (n refl)
+said_zeros (Err e) n = refl
 
 -- The reply by the first fault.
 module _ (faults : List (ℕ × Bool)) (s : Sheet) (accepted : Reply) where
@@ -54,7 +52,7 @@ module _ (faults : List (ℕ × Bool)) (s : Sheet) (accepted : Reply) where
   unfolding answered
   answer_yes e = simp (eq-eqb _ _ (sym e))
 
-  -- what holds of a refusal by it, and of what is accepted where there is none, holds of the reply; so the number said is the first fault's
+  -- what holds of a refusal by it, and of what is accepted where there is none, holds of the reply; so the number said is the first fault's, where each names a refusal
   pub answered_either : (P : Reply → Type 0) → ((first_fault faults ≡ 0 → ⊥) → P (refusing s (first_fault faults))) → (0 ≡ first_fault faults → P accepted) → P (answered faults s accepted)
   unfolding answered
   answered_either P refused made = go (eqb (first_fault faults) 0) refl
@@ -63,30 +61,28 @@ module _ (faults : List (ℕ × Bool)) (s : Sheet) (accepted : Reply) where
       go true e = made (sym (eqb-true _ _ e))
       go false e = refused (eqb-false _ _ e)
 
-  pub number_is : number_of accepted.said ≡ 0 → number_of (answered faults s accepted).said ≡ first_fault faults
-  number_is z = answered_either (λ r. number_of r.said ≡ first_fault faults) (λ _. refl) (λ e. z ∙ e)
+  pub number_is : AllNamed faults → number_of accepted.said ≡ 0 → number_of (answered faults s accepted).said ≡ first_fault faults
+  number_is n z = answered_either (λ r. number_of r.said ≡ first_fault faults) (fault_named faults n) (λ e. z ∙ e)
 
-  pub call_refused : (k : ℕ) → k ≡ first_fault faults → (k ≡ 0 → ⊥) → (r : Reply) → r ≡ refusing s k → CallReply faults (answered faults s accepted) r
-  call_refused k e n r q = record { whole = q ∙ sym (answer_no k e n); number = ap (λ (x : Reply). number_of x.said) q ∙ e; zeros = said_zeros r.said }
+  pub call_refused : (e : Refusal) → refusal_number e ≡ first_fault faults → (r : Reply) → r ≡ record { sheet = s; said = Err e } → CallReply faults (answered faults s accepted) r
+  call_refused e h r q =
+      record {
+        whole = q ∙ ap (λ (f : Refusal). record { sheet = s; said = Err f }) (sym (refusal_named e)) ∙ sym (answer_no (refusal_number e) h (not_zero e));
+        number = ap (λ (x : Reply). number_of x.said) q ∙ h;
+        zeros = said_zeros r.said;
+      }
 
   pub call_accepted : 0 ≡ first_fault faults → (r : Reply) → r ≡ accepted → number_of accepted.said ≡ 0 → CallReply faults (answered faults s accepted) r
   call_accepted e r q z = record { whole = q ∙ sym (answer_yes e); number = ap (λ (x : Reply). number_of x.said) q ∙ z ∙ e; zeros = said_zeros r.said }
 
 -- No change is said back as a refusal.
-said_accepted : (c : Change) (n k : ℕ) (l : Limits) → number_of (said_of c n k l) ≡ 0
-said_accepted (Letter p old new) n k l = refl
-said_accepted (Kind k₀ d₀ kind d) n k l = refl
-said_accepted (Lengths m₀ g₀ m g) n k l = refl
-said_accepted (PutIn p b) n k l = refl
-said_accepted (TakeOut p b) n k l = refl
-
 pub applied_accepted : (s : Sheet) (e : Edit) (st tk : ℕ) → number_of (applied s e st tk).said ≡ 0
 unfolding applied
-applied_accepted s e st tk = said_accepted (replacing e s.letters s.limits) (length_by e s.n) st (limits_by e s.limits)
+applied_accepted s e st tk = refl
 
 pub changed_accepted : (s : Sheet) (e : Edit) → number_of (changed s e).said ≡ 0
 unfolding changed
-changed_accepted s e = said_accepted (replacing e s.letters s.limits) (length_by e s.n) (s.standing + 1) (limits_by e s.limits)
+changed_accepted s e = refl
 
 -- The faults of a call for a change, of whatever kind: j is the number of what it refuses of the edit.
 module _ (s : Sheet) (e : Edit) where
@@ -176,10 +172,23 @@ module _ (s : Sheet) (c : Change) where
   again_is p = ap done_of (sym (popped_is s.taken (last_taken s) c p).0)
 
 -- An accepted opening.
-pub open_reply : (x : Text) (l : Limits) (k : ℕ) (letters map alphabet : List ℕ) (s : Sheet) → k ≡ first_fault (opening_faults x l) → k ≡ 0
+pub open_reply : (x : Text) (l : Limits) (letters map alphabet : List ℕ) (s : Sheet) → 0 ≡ first_fault (opening_faults x l)
     → letters ≡ padded x.letters → map ≡ x.map → alphabet ≡ x.alphabet → s ≡ unchanged_of letters (length x.letters) map l alphabet
-    → CallReply (opening_faults x l) (open_call x l) (record { sheet = s; said = Opened (length x.letters) })
+    → CallReply (opening_faults x l) (open_call x l) (record { sheet = s; said = Ok (Opened (length x.letters)) })
 unfolding opened
-open_reply x l k letters map alphabet s e z p q y u =
-    call_accepted (opening_faults x l) blank_sheet (record { sheet = opened x l; said = Opened (length x.letters) }) (sym z ∙ e) _
-    (ap (λ (t : Sheet). record { sheet = t; said = Opened (length x.letters) }) (u ∙ (λ i. unchanged_of (p i) (length x.letters) (q i) l (y i)))) refl
+open_reply x l letters map alphabet s e p q y u =
+    call_accepted (opening_faults x l) blank_sheet (record { sheet = opened x l; said = Ok (Opened (length x.letters)) }) e _
+    (ap (λ (t : Sheet). record { sheet = t; said = Ok (Opened (length x.letters)) }) (u ∙ (λ i. unchanged_of (p i) (length x.letters) (q i) l (y i)))) refl
+
+-- Each fault of an edit, and of a call for a change, names a refusal.
+pub edit_named : (n : ℕ) (z : List ℕ) (e : Edit) → AllNamed (edit_faults n z e)
+unfolding edit_faults place_fault letter_fault kind_faults lengths_faults
+edit_named n z (Letter p b) = (refl, (refl, tt))
+edit_named n z (Kind k d) = (refl, (refl, tt))
+edit_named n z (Lengths m g) = (refl, tt)
+edit_named n z (PutIn p b) = (refl, (refl, (refl, tt)))
+edit_named n z (TakeOut p) = (refl, tt)
+
+pub change_named : (s : Sheet) (e : Edit) → AllNamed (change_faults s e)
+unfolding change_faults
+change_named s e = (refl, named_append (edit_faults s.n s.alphabet e) _ (edit_named s.n s.alphabet e) (refl, tt))

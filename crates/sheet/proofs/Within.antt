@@ -1,10 +1,14 @@
 -- What the bounds of a sheet ask, one by one. Assumes nothing.
-use mathlib.Core.Path.{◌≡◌}
+use mathlib.Core.Path.{◌≡◌, refl}
 use mathlib.Core.Bool.{true, false}
 use Prim.Native.Nat.{ℕ, ◌+◌, ◌≤◌, ◌<◌}
 use borrow.Author.Tests.{le-leb, lt-leb, leb-true, eq-eqb, ne_eqb, eqb-true}
 use lib.Dec.{leb, eqb}
-use Rattle.terms.specs.Refusals.{first_fault}
+use Rattle.std.specs.Prelude.{Result, Ok, Err}
+use Rattle.std.specs.Result.{is_err}
+use Rattle.terms.proofs.Named.{not_zero}
+use Rattle.terms.specs.declared.refusal.Refusal.{Refusal}
+use Rattle.terms.specs.Refusals.{first_fault, fault_of}
 use Rattle.terms.specs.Texts.{opening_faults}
 use Rattle.terms.proofs.Below.{and_left, and_right}
 use Rattle.kept.specs.Lists.{kept_accepted}
@@ -49,3 +53,12 @@ bounds s w =
       few = kept_few s.n s.alphabet s.kept s.standing s.taken b;
       kept = b;
     }
+
+-- what is an error is refused, what is none is not
+pub erred : {A : Type 0} (r : Result A Refusal) → is_err r ≡ true → fault_of r ≡ 0 → ⊥
+erred (Ok a) h z = cc
+erred (Err e) h z = not_zero e z
+
+pub not_erred : {A : Type 0} (r : Result A Refusal) → is_err r ≡ false → fault_of r ≡ 0
+not_erred (Ok a) h = refl
+not_erred (Err e) h = cc

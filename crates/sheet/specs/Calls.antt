@@ -1,10 +1,11 @@
 -- What each call on a sheet replies: the sheet afterwards and what is said (01, "The sheet"; 02, L5 and L6).
-use Rattle.std.specs.Prelude.{◌≡◌, Bool, not, cond, List, [], ◌∷◌, ◌++◌, ℕ, ◌+◌, ◌-◌, eqb, leb, set, length, replicate}
+use Rattle.std.specs.Prelude.{◌≡◌, Bool, not, cond, List, [], ◌∷◌, ◌++◌, ℕ, ◌+◌, ◌-◌, eqb, leb, set, length, replicate, Result, Ok, Err}
 use Rattle.terms.specs.Sizes.{most_changes}
-use Rattle.terms.specs.Refusals.{first_fault}
+use Rattle.terms.specs.Refusals.{refusal_of, fault_of, first_fault}
 use Rattle.terms.specs.Maps.{plain_map}
 use Rattle.terms.specs.Texts.{Text, text_all, opening_faults}
 use Rattle.terms.specs.declared.limits.Limits.{Limits}
+use Rattle.terms.specs.declared.refusal.Refusal.{Refusal}
 use Rattle.changes.specs.Changes.{done_of, back_of, length_by, limits_by, edit_faults}
 use Rattle.changes.specs.declared.Change.{Change}
 use Rattle.changes.specs.declared.Change.TheVariants.{Letter as ChangedLetter, Kind as DidKind, Lengths as DidLengths, PutIn as DidPutIn, TakeOut as DidTakeOut}
@@ -12,36 +13,29 @@ use Rattle.changes.specs.declared.Edit.{Edit}
 use Rattle.changes.specs.declared.Edit.TheVariants.{Letter as EditLetter, Kind as EditKind, Lengths as EditLengths, PutIn as EditPutIn, TakeOut as EditTakeOut}
 use Rattle.shifts.specs.Shifts.{letters_by, replacing}
 use Rattle.kept.specs.Lists.{no_change, kept_at}
-use Rattle.kept.specs.declared.Kept.{Kept}
 use Rattle.places.specs.Places.{padded}
 use Rattle.sheet.specs.Bounds.{in_bounds}
 use Rattle.sheet.specs.declared.Said.{Said}
-use Rattle.sheet.specs.declared.Said.TheVariants.{Letter as SaidLetter, Kind as SaidKind, Lengths as SaidLengths, PutIn as SaidPutIn, TakeOut as SaidTakeOut, Opened, No}
+use Rattle.sheet.specs.declared.Said.TheVariants.{Letter as SaidLetter, Kind as SaidKind, Lengths as SaidLengths, PutIn as SaidPutIn, TakeOut as SaidTakeOut, Opened}
 use Rattle.sheet.specs.declared.Sheet.{Sheet}
 use Rattle.sheet.specs.declared.Reply.{Reply}
 
 -- 01's number of what is said, 0 where the call was accepted; and its values in 01's order, zeros on a refusal.
-abbrev pub number_of : Said → ℕ
-number_of (SaidLetter p old new k) = 0
-number_of (SaidKind l k) = 0
-number_of (SaidLengths l k) = 0
-number_of (SaidPutIn p b n k) = 0
-number_of (SaidTakeOut p b n k) = 0
-number_of (Opened n) = 0
-number_of (No k) = k
+abbrev pub number_of : Result Said Refusal → ℕ
+number_of w = fault_of w
 
-abbrev pub values_of : Said → List ℕ
-values_of (SaidLetter p old new k) = p ∷ old ∷ new ∷ k ∷ []
-values_of (SaidKind l k) = l.kind ∷ l.m ∷ l.g ∷ l.d ∷ k ∷ []
-values_of (SaidLengths l k) = l.kind ∷ l.m ∷ l.g ∷ l.d ∷ k ∷ []
-values_of (SaidPutIn p b n k) = p ∷ b ∷ n ∷ k ∷ []
-values_of (SaidTakeOut p b n k) = p ∷ b ∷ n ∷ k ∷ []
-values_of (Opened n) = n ∷ 0 ∷ []
-values_of (No k) = 0 ∷ 0 ∷ 0 ∷ 0 ∷ []
+abbrev pub values_of : Result Said Refusal → List ℕ
+values_of (Ok (SaidLetter p old new k)) = p ∷ old ∷ new ∷ k ∷ []
+values_of (Ok (SaidKind l k)) = l.kind ∷ l.m ∷ l.g ∷ l.d ∷ k ∷ []
+values_of (Ok (SaidLengths l k)) = l.kind ∷ l.m ∷ l.g ∷ l.d ∷ k ∷ []
+values_of (Ok (SaidPutIn p b n k)) = p ∷ b ∷ n ∷ k ∷ []
+values_of (Ok (SaidTakeOut p b n k)) = p ∷ b ∷ n ∷ k ∷ []
+values_of (Ok (Opened n)) = n ∷ 0 ∷ []
+values_of (Err e) = 0 ∷ 0 ∷ 0 ∷ 0 ∷ []
 
 -- A refusal says its number, and the sheet stays.
 abbrev pub refusing : Sheet → ℕ → Reply
-refusing s k = record { sheet = s; said = No k }
+refusing s k = record { sheet = s; said = Err (refusal_of k) }
 
 -- The reply of a call with these faults, in testing order: the first that holds is refused, else the call is accepted.
 unfoldable pub answered : List (ℕ × Bool) → Sheet → Reply → Reply
@@ -62,7 +56,7 @@ said_of (DidPutIn p b) n k l = SaidPutIn p b n k
 said_of (DidTakeOut p b) n k l = SaidTakeOut p b n k
 
 -- An edit made, and said back with the number standing; the kept changes become ks, the two counts st and tk.
-abbrev pub editing : Sheet → Edit → List Kept → ℕ → ℕ → Reply
+abbrev pub editing : Sheet → Edit → List Change → ℕ → ℕ → Reply
 editing s e ks st tk =
     record {
       sheet =
@@ -76,7 +70,7 @@ editing s e ks st tk =
             standing = st;
             taken = tk;
           };
-      said = said_of (replacing e s.letters s.limits) (length_by e s.n) st (limits_by e s.limits);
+      said = Ok (said_of (replacing e s.letters s.limits) (length_by e s.n) st (limits_by e s.limits));
     }
 
 -- An edit made over the same kept changes.
@@ -85,7 +79,7 @@ applied s e st tk = editing s e s.kept st tk
 
 -- An accepted change joins the standing list as its newest and empties the taken-back list.
 unfoldable pub changed : Sheet → Edit → Reply
-changed s e = editing s e (set s.kept s.standing (record { what = replacing e s.letters s.limits })) (s.standing + 1) 0
+changed s e = editing s e (set s.kept s.standing (replacing e s.letters s.limits)) (s.standing + 1) 0
 
 -- Every call on a sheet: 24 first. A call for a change: then what it refuses of the edit, then 7.
 unfoldable pub change_faults : Sheet → Edit → List (ℕ × Bool)
@@ -170,4 +164,4 @@ blank_sheet = opened (text_all [] plain_map) (record { kind = 1; m = 1; g = 0; d
 
 -- Opening: 1, 2, 3, 18, 19, 4, 5. A refused opening gives the blank sheet.
 abbrev pub open_call : Text → Limits → Reply
-open_call x l = answered (opening_faults x l) blank_sheet (record { sheet = opened x l; said = Opened (length x.letters) })
+open_call x l = answered (opening_faults x l) blank_sheet (record { sheet = opened x l; said = Ok (Opened (length x.letters)) })

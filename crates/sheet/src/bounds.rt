@@ -3,7 +3,7 @@ ghost use Rattle.std.specs.Prelude.{◌≡◌};
 ghost use Rattle.sheet.specs.Bounds.{in_bounds};
 
 use crate::Sheet;
-use places::opening_refusal;
+use places::check_opening;
 
 impl Sheet {
     // Whether the sheet keeps its bounds: what refusal 24 denies.
@@ -13,15 +13,22 @@ impl Sheet {
         if Sheet::LETTERS < self.n {
             return false;
         }
-        let letters = self.letters;
-        let n = self.n;
-        let map = self.map;
-        let limits = self.limits;
-        let alphabet = self.alphabet;
-        if opening_refusal(letters, n, map, limits, alphabet) != 0 {
+        let opening = check_opening(
+            &self.letters,
+            self.n,
+            &self.map,
+            self.limits,
+            &self.alphabet,
+        );
+        if opening.is_err() {
             return false;
         }
-        let kept = self.kept;
-        kept::accepted(kept, self.standing, self.taken, n, &alphabet)
+        kept::accepted(
+            &self.kept,
+            self.standing,
+            self.taken,
+            self.n,
+            &self.alphabet,
+        )
     }
 }

@@ -3,24 +3,27 @@
 
 mod bounds;
 
-ghost use Rattle.std.specs.Prelude.{◌≡◌, true, ◌≤◌, ◌<◌, leb};
+ghost use Rattle.std.specs.Prelude.{◌≡◌, true, ◌≤◌, ◌<◌, leb, Err};
 ghost use Rattle.terms.specs.Sizes.{most_changes};
-ghost use Rattle.terms.specs.Refusals.{first_fault};
-ghost use Rattle.terms.specs.Texts.{text, opening_faults};
+ghost use Rattle.terms.specs.Refusals.{first_fault, fault_of};
+ghost use Rattle.terms.specs.Texts.{opening_faults};
+ghost use Rattle.texts.specs.Lent.{text_of};
 ghost use Rattle.changes.specs.Work.{fits};
-ghost use Rattle.sheet.specs.Calls.{refusing, CallReply, said_of, applied, changed, change_faults, change_call, letter_faults, put_in_faults, take_out_faults, kind_call_faults, lengths_call_faults, take_back_faults, put_again_faults, letter_call, put_in_call, take_out_call, kind_call, lengths_call, take_back_call, put_again_call, blank_sheet, open_call};
+ghost use Rattle.sheet.specs.Calls.{CallReply, said_of, applied, changed, change_faults, change_call, letter_faults, put_in_faults, take_out_faults, kind_call_faults, lengths_call_faults, take_back_faults, put_again_faults, letter_call, put_in_call, take_out_call, kind_call, lengths_call, take_back_call, put_again_call, blank_sheet, open_call};
 ghost use Rattle.sheet.specs.Question.{SheetReply};
 ghost use Rattle.sheet.specs.Work.{unchanged_of};
 
 use changes::{Change, Edit};
-use kept::{Kept, Popped};
-use places::{letters_of, map_of, tile_first};
-use questions::Answer;
+use kept::Popped;
+use places::{padded, tile_first};
+use questions::{Figures, Untiled};
 use shifts::{edited, replaced};
 use terms::limits::Limits;
+use terms::refusal::Refusal;
 use terms::{alphabets, maps};
+use texts::Text;
 
-// What a call says back; for a refusal, its number.
+// What an accepted call says back.
 #[derive(Clone, Copy)]
 pub enum Said {
     Letter {
@@ -51,9 +54,6 @@ pub enum Said {
     },
     Opened {
         n: usize,
-    },
-    No {
-        number: usize,
     },
 }
 
@@ -105,16 +105,16 @@ pub struct Sheet {
     pub map: [u8; 256],
     pub alphabet: [u8; 256],
     pub limits: Limits,
-    pub kept: [Kept; Sheet::CHANGES],
+    pub kept: [Change; Sheet::CHANGES],
     pub standing: usize,
     pub taken: usize,
 }
 
-// What a call hands back: the sheet afterwards, and what is said.
+// What a call hands back: the sheet afterwards, and what is said or why the call is refused.
 #[derive(Clone, Copy)]
 pub struct Reply {
     pub sheet: Sheet,
-    pub said: Said,
+    pub said: Result<Said, Refusal>,
 }
 
 impl Sheet {
@@ -123,10 +123,10 @@ impl Sheet {
     pub const CHANGES: usize = terms::CHANGES;
 
     // The sheet as it stands, with a refusal.
-    fn refused(self, number: usize) -> Reply
-        ensures { result ≡ refusing self number }
+    fn refused(self, refusal: Refusal) -> Reply
+        ensures { result ≡ record { sheet = self; said = Err refusal } }
     {
-        let said = Said::No { number };
+        let said = Err(refusal);
         Reply { sheet: self, said }
     }
 
@@ -140,12 +140,10 @@ impl Sheet {
     ) -> Sheet
         ensures { result ≡ unchanged_of letters n map limits alphabet }
     {
-        let none = Kept {
-            what: Change::Letter {
-                place: 0,
-                old: 0,
-                new: 0,
-            },
+        let none = Change::Letter {
+            place: 0,
+            old: 0,
+            new: 0,
         };
         Sheet {
             letters,
@@ -179,20 +177,19 @@ impl Sheet {
     }
 
     // Opens a sheet: copies string, map, limits and alphabet.
-    pub fn open(string: &[u8], map: &[u8], limits: Limits, alphabet: &[u8]) -> Reply
-        ensures { CallReply (opening_faults (text string.now map.now alphabet.now) limits) (open_call (text string.now map.now alphabet.now) limits) result }
+    pub fn open(text: Text, limits: Limits) -> Reply
+        ensures { CallReply (opening_faults (text_of text.entry) limits) (open_call (text_of text.entry) limits) result }
     {
-        let number = texts::opening_refusal(string, map, limits, alphabet);
-        if number != 0 {
-            return Sheet::blank().refused(number);
+        if let Err(refusal) = text.check_opening(limits) {
+            return Sheet::blank().refused(refusal);
         }
-        let letters = letters_of(string);
-        let f = map_of(map);
-        let z = map_of(alphabet);
-        let n = string.len();
+        let letters = padded(text.letters);
+        let f = padded(text.map);
+        let z = padded(text.alphabet);
+        let n = text.letters.len();
         Reply {
             sheet: Sheet::unchanged(letters, n, f, limits, z),
-            said: Said::Opened { n },
+            said: Ok(Said::Opened { n }),
         }
     }
 
@@ -215,7 +212,10 @@ impl Sheet {
         next.limits = limits_after;
         next.standing = standing;
         next.taken = taken;
-        Reply { sheet: next, said }
+        Reply {
+            sheet: next,
+            said: Ok(said),
+        }
     }
 
     // Makes an edit, keeps it as the newest change, and empties the list of those taken back.
@@ -226,11 +226,8 @@ impl Sheet {
         let at = self.standing;
         let letters = self.letters;
         let limits = self.limits;
-        let k = Kept {
-            what: replaced(letters, limits, e),
-        };
         let mut next = self;
-        next.kept[at] = k;
+        next.kept[at] = replaced(letters, limits, e);
         next.apply(e, at + 1, 0)
     }
 
@@ -241,31 +238,25 @@ impl Sheet {
         Sheet::CHANGES <= self.standing
     }
 
-    // The first refusal of a call for a change, 0 where there is none.
-    fn change_refusal(self, e: Edit) -> usize
-        ensures { result ≡ first_fault (change_faults self e) }
+    // The first refusal of a call for a change.
+    fn check_change(self, e: Edit) -> Result<(), Refusal>
+        ensures { fault_of result ≡ first_fault (change_faults self e) }
     {
         if !self.in_bounds() {
-            return 24;
+            return Err(Refusal::OutOfBounds);
         }
-        let n = self.n;
-        let alphabet = self.alphabet;
-        let number = e.refusal(n, &alphabet);
-        if number != 0 {
-            return number;
-        }
+        e.check(self.n, &self.alphabet)?;
         if self.full() {
-            return 7;
+            return Err(Refusal::AllStand);
         }
-        0
+        Ok(())
     }
 
     // Makes the change that an edit asks for, or refuses it: what every call for a change does.
     pub fn ask(self, e: Edit) -> Reply
         ensures { CallReply (change_faults self e) (change_call self e) result }
     {
-        let refusal = self.change_refusal(e);
-        if refusal != 0 {
+        if let Err(refusal) = self.check_change(e) {
             return self.refused(refusal);
         }
         self.change(e)
@@ -307,15 +298,15 @@ impl Sheet {
     }
 
     // Takes the newest standing change back.
+    // No one function for this and put_again: what is popped, refused, made and counted all differ, and popping needs the bounds tested first.
     pub fn take_back(self) -> Reply
         ensures { CallReply (take_back_faults self) (take_back_call self) result }
     {
         if !self.in_bounds() {
-            return self.refused(24);
+            return self.refused(Refusal::OutOfBounds);
         }
-        let kept = self.kept;
-        let Popped::Change(c) = kept::newest(kept, self.standing) else {
-            return self.refused(8);
+        let Popped::Change(c) = kept::newest(&self.kept, self.standing) else {
+            return self.refused(Refusal::NoneStands);
         };
         self.apply(c.back(), self.standing - 1, self.taken + 1)
     }
@@ -325,32 +316,29 @@ impl Sheet {
         ensures { CallReply (put_again_faults self) (put_again_call self) result }
     {
         if !self.in_bounds() {
-            return self.refused(24);
+            return self.refused(Refusal::OutOfBounds);
         }
-        let kept = self.kept;
-        let Popped::Change(c) = kept::last_taken(kept, self.standing, self.taken) else {
-            return self.refused(9);
+        let Popped::Change(c) = kept::last_taken(&self.kept, self.standing, self.taken) else {
+            return self.refused(Refusal::NoneTakenBack);
         };
         self.apply(c.done(), self.standing + 1, self.taken - 1)
     }
 
     // The tiling question on the sheet's own letters, map, alphabet and limits; the sheet stays.
-    pub fn question(self, table: &mut [u16], room: &mut [u8]) -> Answer
+    pub fn question(self, table: &mut [u16], room: &mut [u8]) -> Result<Figures, Untiled>
         ensures { SheetReply self table.old table.new room.old room.new result }
     {
         if !self.in_bounds() {
-            return Answer {
-                number: 24,
-                total: 0,
-                parts: 0,
-                gaps: 0,
-            };
+            return Err(Untiled::Refused(Refusal::OutOfBounds));
         }
-        let n = self.n;
-        let letters = self.letters;
-        let map = self.map;
-        let alphabet = self.alphabet;
-        let limits = self.limits;
-        tile_first(letters, n, map, limits, table, room, alphabet)
+        tile_first(
+            &self.letters,
+            self.n,
+            &self.map,
+            self.limits,
+            table,
+            room,
+            &self.alphabet,
+        )
     }
 }

@@ -10,18 +10,15 @@ use changes::{Change, Edit};
 use terms::LETTERS;
 use terms::limits::Limits;
 
+// The array goes with n beside it, and no slice of the first n: a letter put in takes place n, and `letters_by` speaks of all 1,000 places.
+
 // The first n places with a byte put in before a place.
 fn put_in(letters: [u8; LETTERS], n: usize, place: usize, byte: u8) -> [u8; LETTERS]
     requires { (place ≤ n) × (n < 1000) }
     ensures { result ≡ places_put_in letters n place byte }
 {
     let mut x = letters;
-    let mut i = n;
-    while place < i {
-        let v = x[i - 1];
-        x[i] = v;
-        i -= 1;
-    }
+    x.copy_within(place..n, place + 1);
     x[place] = byte;
     x
 }
@@ -32,12 +29,7 @@ fn take_out(letters: [u8; LETTERS], n: usize, place: usize) -> [u8; LETTERS]
     ensures { result ≡ places_take_out letters n place }
 {
     let mut x = letters;
-    let mut i = place;
-    while i < n - 1 {
-        let v = x[i + 1];
-        x[i] = v;
-        i += 1;
-    }
+    x.copy_within(place + 1..n, place);
     x[n - 1] = 0;
     x
 }
@@ -53,14 +45,14 @@ pub fn edited(letters: [u8; LETTERS], n: usize, e: Edit) -> [u8; LETTERS]
             a[place] = byte;
             a
         }
-        Edit::Kind { kind: _, d: _ } => letters,
-        Edit::Lengths { m: _, g: _ } => letters,
+        Edit::Kind { .. } | Edit::Lengths { .. } => letters,
         Edit::PutIn { place, byte } => put_in(letters, n, place, byte),
         Edit::TakeOut { place } => take_out(letters, n, place),
     }
 }
 
 // The change that an edit makes, with what it replaces.
+#[tactic(auto, unfolding(crate::specs::Shifts::replacing))]
 pub fn replaced(letters: [u8; LETTERS], limits: Limits, e: Edit) -> Change
     requires { in_places e ≡ true }
     ensures { result ≡ replacing e letters limits }

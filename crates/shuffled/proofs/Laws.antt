@@ -1,16 +1,18 @@
 -- What an accepted fill may count on, and the laws for a reader. Assumes nothing.
-use mathlib.Core.Path.{◌≡◌, refl, sym, ◌∙◌}
+use mathlib.Core.Path.{◌≡◌, refl, sym, ap, ◌∙◌}
 use mathlib.Core.Bool.{true, not}
 use mathlib.Core.List.{List, [], ◌∷◌}
 use mathlib.Core.Logic.{⊎_elim}
 use Prim.Native.Nat.{ℕ, ◌+◌, ◌≤◌, ◌<◌}
-use native.Mathlib.Decide.{ℕ_discrete}
 use native.Mathlib.Nat.{le_antisymm}
 use native.Mathlib.Omega.{arith}
 use borrow.Author.Tests.{ltb-false}
 use lib.Dec.{ltb}
 use lib.ListN.{length, get_or-eq_default}
+use Rattle.std.specs.Prelude.{Result, Ok, Err}
 use Rattle.terms.specs.Refusals.{first_fault, OneOf}
+use Rattle.terms.specs.declared.refusal.Refusal.{Refusal}
+use Rattle.terms.proofs.Named.{not_zero, same_refusal}
 use Rattle.terms.proofs.Order.{le_or_lt}
 use Rattle.terms.proofs.Passed.{passed, not_off}
 use Rattle.terms.proofs.Ranges.{entries_unique}
@@ -39,15 +41,11 @@ module _ (s before : List ℕ) where
       entries_unique (LongestShuffled s) (λ k v w h g. le_antisymm (g.longest v h.is) (h.longest w g.is))
       (length s) before a a' p.long q.long p.filled q.filled p.stay q.stay
 
-  one_reply : (a a' : List ℕ) (r r' : ℕ) → ShuffledReply s before a r → ShuffledReply s before a' r' → (a ≡ a') × (r ≡ r')
-  one_reply a a' r r' p q =
-      elim (ℕ_discrete r 0) [
-        | yes e ↦ (one_slice a a' (p.accepted e) (q.accepted (sym same ∙ e)), same)
-        | no n ↦ (p.refused n ∙ sym (q.refused (λ e. n (same ∙ e))), same)
-      ]
-    where
-      same : r ≡ r'
-      same = p.number ∙ sym q.number
+  one_reply : (a a' : List ℕ) (r r' : Result (Unit {0}) Refusal) → ShuffledReply s before a r → ShuffledReply s before a' r' → (a ≡ a') × (r ≡ r')
+  one_reply a a' (Ok u) (Ok u') p q = (one_slice a a' (p.accepted refl) (q.accepted refl), refl)
+  one_reply a a' (Ok u) (Err e) p q = absurd (not_zero e (q.number ∙ sym p.number))
+  one_reply a a' (Err e) (Ok u) p q = absurd (not_zero e (p.number ∙ sym q.number))
+  one_reply a a' (Err e) (Err e') p q = (p.refused (not_zero e) ∙ sym (q.refused (not_zero e')), ap Err (same_refusal e e' (p.number ∙ sym q.number)))
 
   -- Letters of A to Z are bytes, and so is what stands for a place past the end.
   bytes : capitals s ≡ true → (k : ℕ) → letter s k < 256

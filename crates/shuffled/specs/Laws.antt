@@ -1,6 +1,7 @@
 -- What a reader may count on of shuffled palindromes and of their fill; proved in proofs/.
-use Rattle.std.specs.Prelude.{◌≡◌, List, [], ◌∷◌, ℕ, ◌≤◌, ◌<◌, get_or}
-use Rattle.terms.specs.Refusals.{OneOf}
+use Rattle.std.specs.Prelude.{◌≡◌, List, [], ◌∷◌, ℕ, ◌≤◌, ◌<◌, Result, Ok, get_or}
+use Rattle.terms.specs.Refusals.{fault_of, OneOf}
+use Rattle.terms.specs.declared.refusal.Refusal.{Refusal}
 use Rattle.terms.specs.Maps.{plain_map}
 use Rattle.spans.specs.Palindromes.{letter, ExactPalindrome}
 use Rattle.shuffled.specs.Shuffled.{Shuffled, ShuffledReply}
@@ -12,9 +13,9 @@ ExactPass =
 
 pub record ShuffledLaws (s before : List ℕ) : Type 0 where
   -- the number answered is always one of these
-  pub listed : (after : List ℕ) (r : ℕ) → ShuffledReply s before after r → OneOf r (0 ∷ 1 ∷ 20 ∷ 11 ∷ [])
+  pub listed : (after : List ℕ) (r : Result (Unit {0}) Refusal) → ShuffledReply s before after r → OneOf (fault_of r) (0 ∷ 1 ∷ 20 ∷ 11 ∷ [])
   -- two replies to one question are equal, slices included
-  pub one : (after after' : List ℕ) (r r' : ℕ) → ShuffledReply s before after r → ShuffledReply s before after' r' → (after ≡ after') × (r ≡ r')
+  pub one : (after after' : List ℕ) (r r' : Result (Unit {0}) Refusal) → ShuffledReply s before after r → ShuffledReply s before after' r' → (after ≡ after') × (r ≡ r')
   -- no exact palindrome under the plain map is longer than the entry of its start
   pub exact :
-      (after : List ℕ) → ShuffledReply s before after 0 → (a L : ℕ) → ExactPalindrome s plain_map a L → L ≤ get_or after a 0
+      (after : List ℕ) → ShuffledReply s before after (Ok tt) → (a L : ℕ) → ExactPalindrome s plain_map a L → L ≤ get_or after a 0

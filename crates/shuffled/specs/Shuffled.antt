@@ -1,6 +1,7 @@
 -- Shuffled palindromes (02, L7; document 002's abelian palindromes), and the fill of the longest from each start.
-use Rattle.std.specs.Prelude.{◌≡◌, Bool, not, ◌&&◌, List, [], ◌∷◌, ℕ, ◌+◌, ◌%◌, ◌≤◌, ◌<◌, eqb, leb, ltb, length, get_or}
-use Rattle.terms.specs.Refusals.{first_fault}
+use Rattle.std.specs.Prelude.{◌≡◌, Bool, not, ◌&&◌, List, [], ◌∷◌, ℕ, ◌+◌, ◌%◌, ◌≤◌, ◌<◌, Result, eqb, leb, ltb, length, get_or}
+use Rattle.terms.specs.Refusals.{first_fault, fault_of}
+use Rattle.terms.specs.declared.refusal.Refusal.{Refusal}
 use Rattle.terms.specs.Maps.{every_below}
 use Rattle.terms.specs.Texts.{too_long}
 use Rattle.spans.specs.Palindromes.{letter, count}
@@ -38,8 +39,8 @@ capitals s = every_below (length s) (λ k. capital (letter s k))
 unfoldable pub shuffled_faults : List ℕ → ℕ → List (ℕ × Bool)
 shuffled_faults s lent = (1, too_long s) ∷ (20, not (capitals s)) ∷ (11, ltb lent (length s)) ∷ []
 
--- The reply: a refusal is its number and leaves the slice; else 0, and the slice is filled.
-pub record ShuffledReply (s before after : List ℕ) (r : ℕ) : Type 0 where
-  pub number : r ≡ first_fault (shuffled_faults s (length before))
-  pub refused : (r ≡ 0 → ⊥) → after ≡ before
-  pub accepted : r ≡ 0 → Longests s before after
+-- The reply: a refusal is its number and leaves the slice; else the slice is filled.
+pub record ShuffledReply (s before after : List ℕ) (r : Result (Unit {0}) Refusal) : Type 0 where
+  pub number : fault_of r ≡ first_fault (shuffled_faults s (length before))
+  pub refused : (fault_of r ≡ 0 → ⊥) → after ≡ before
+  pub accepted : fault_of r ≡ 0 → Longests s before after

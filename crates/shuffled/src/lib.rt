@@ -4,11 +4,12 @@
 ghost use Rattle.std.specs.Prelude.{◌≡◌, true, ◌-◌, ◌≤◌, ◌<◌, ◌^◌, leb, length};
 ghost use Rattle.std.specs.Int.Bits.{bit_xor};
 ghost use Rattle.std.specs.Int.Count.{ones};
-ghost use Rattle.terms.specs.Refusals.{first_fault};
-ghost use Rattle.shuffled.specs.Shuffled.{capital, capitals, LongestShuffled, Longests, shuffled_faults, ShuffledReply};
+ghost use Rattle.terms.specs.Refusals.{first_fault, fault_of};
+ghost use Rattle.shuffled.specs.Shuffled.{capitals, LongestShuffled, Longests, shuffled_faults, ShuffledReply};
 ghost use Rattle.shuffled.specs.Work.{ParityWord};
 
 use terms::LETTERS;
+use terms::refusal::Refusal;
 
 // The word of parities with one letter's bit turned round: the letter is put in, or taken out again.
 fn turned(w: u32, letter: u8) -> u32
@@ -33,6 +34,7 @@ fn longest_from(s: &[u8], a: usize, w: u32) -> u16
 {
     let mut rest = w;
     let mut len = s.len() - a;
+    // No `for`: one letter always passes, so a range would end in an answer that is never given.
     while !at_most_one(rest) {
         len -= 1;
         rest = turned(rest, s[a + len]);
@@ -46,58 +48,41 @@ fn fill_longest(s: &[u8], out: &mut [u16])
     ensures { Longests s.now out.old out.new }
 {
     let mut w = 0u32;
-    let mut a = s.len();
-    while 0 < a {
-        a -= 1;
+    for a in (0..s.len()).rev() {
         w = turned(w, s[a]);
         out[a] = longest_from(s, a, w);
     }
-}
-
-fn is_capital(b: u8) -> bool
-    ensures { result ≡ capital b }
-{
-    65 <= b && b <= 90
 }
 
 // Whether every byte is one of A to Z.
 fn only_capitals(s: &[u8]) -> bool
     ensures { result ≡ capitals s.now }
 {
-    let mut k = 0;
-    while k < s.len() {
-        if !is_capital(s[k]) {
-            return false;
-        }
-        k += 1;
-    }
-    true
+    s.iter().all(|b| b.is_ascii_uppercase())
 }
 
-// The first refusal of the fill into `lent` entries, 0 where there is none.
-fn shuffled_refusal(s: &[u8], lent: usize) -> usize
-    ensures { result ≡ first_fault (shuffled_faults s.now lent) }
+// The first refusal of the fill into `lent` entries.
+fn check_shuffled(s: &[u8], lent: usize) -> Result<(), Refusal>
+    ensures { fault_of result ≡ first_fault (shuffled_faults s.now lent) }
 {
     if LETTERS < s.len() {
-        return 1;
+        return Err(Refusal::StringTooLong);
     }
-    if !only_capitals(s) {
-        return 20;
+    let capitals = only_capitals(s);
+    if !capitals {
+        return Err(Refusal::NoCapital);
     }
     if lent < s.len() {
-        return 11;
+        return Err(Refusal::TableTooShort);
     }
-    0
+    Ok(())
 }
 
-// Fills the slice with the longest shuffled palindrome's length from each start; a refused slice stays. The refusal's number, or 0.
-pub fn fill_shuffled(s: &[u8], out: &mut [u16]) -> usize
+// Fills the slice with the longest shuffled palindrome's length from each start; a refused slice stays.
+pub fn fill_shuffled(s: &[u8], out: &mut [u16]) -> Result<(), Refusal>
     ensures { ShuffledReply s.now out.old out.new result }
 {
-    let number = shuffled_refusal(s, out.len());
-    if number != 0 {
-        return number;
-    }
+    check_shuffled(s, out.len())?;
     fill_longest(s, out);
-    0
+    Ok(())
 }

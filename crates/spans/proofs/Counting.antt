@@ -115,12 +115,19 @@ errors_inward s f a (suc (suc L)) h =
     omega arith
 
 -- The walk inward ends at one letter, or at none.
-pub inward_one : (s f : List ℕ) (a L e t w : ℕ) → e + error_count s f a L ≡ t → L ≡ 1 → w ≡ one (differs s f a a) → e + w ≡ t
-inward_one s f a L e t w h l q = let p : error_count s f a L ≡ one (differs s f a a) = ap (error_count s f a) l ∙ errors_one s f a in omega arith
+pub inward_one : (s f : List ℕ) (a m L e t w : ℕ) → e + error_count s f a L ≡ t → L ≡ 1 → a ≡ m → w ≡ one (differs s f m m) → e + w ≡ t
+inward_one s f a m L e t w h l r q =
+    let p : error_count s f a L ≡ one (differs s f a a) = ap (error_count s f a) l ∙ errors_one s f a in
+    let i : one (differs s f a a) ≡ one (differs s f m m) = ap (λ (j : ℕ). one (differs s f j j)) r in
+    omega arith
 
 pub inward_none : (s f : List ℕ) (a L e t : ℕ) → e + error_count s f a L ≡ t → L ≡ 0 → e ≡ t
 inward_none s f a L e t h l = let p : error_count s f a L ≡ 0 = ap (error_count s f a) l ∙ errors_none s f a in omega arith
 
-pub inward_step : (s f : List ℕ) (a L e t w : ℕ) → e + error_count s f a L ≡ t → 1 < L → w ≡ one (differs s f a (a + L - 1)) → e + w + error_count s f (a + 1) (L - 2) ≡ t
-inward_step s f a L e t w h l q =
-    let p : error_count s f a L ≡ one (differs s f a (a + L - 1)) + error_count s f (a + 1) (L - 2) = errors_inward s f a L l in omega arith
+-- One pair further in: k pairs are counted.
+pub inward_step : (s f : List ℕ) (a L k e t w : ℕ) → e + error_count s f (a + k) (L - (k + k)) ≡ t → k < L / 2 → w ≡ one (differs s f (a + k) (a + L - 1 - k)) → e + w + error_count s f (a + (k + 1)) (L - (k + 1 + (k + 1))) ≡ t
+inward_step s f a L k e t w h l q =
+    let p : error_count s f (a + k) (L - (k + k)) ≡ one (differs s f (a + k) (a + k + (L - (k + k)) - 1)) + error_count s f (a + k + 1) (L - (k + k) - 2) = errors_inward s f (a + k) (L - (k + k)) (omega arith) in
+    let i : one (differs s f (a + k) (a + k + (L - (k + k)) - 1)) ≡ one (differs s f (a + k) (a + L - 1 - k)) = ap (λ (j : ℕ). one (differs s f (a + k) j)) (omega arith) in
+    let j : error_count s f (a + k + 1) (L - (k + k) - 2) ≡ error_count s f (a + (k + 1)) (L - (k + 1 + (k + 1))) = ap₂ (error_count s f) (omega arith) (omega arith) in
+    omega arith

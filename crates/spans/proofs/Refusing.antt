@@ -7,13 +7,16 @@ use native.Mathlib.Omega.{arith}
 use borrow.Author.Tests.{lt-ltb, le-ltb, ltb-false}
 use lib.Dec.{ltb}
 use lib.ListN.{length}
-use Rattle.terms.specs.Refusals.{first_fault}
+use Rattle.std.specs.Prelude.{Result, Ok, Err, IsErrAnd}
+use Rattle.terms.specs.Refusals.{refusal_number, first_fault}
+use Rattle.terms.specs.declared.refusal.Refusal.{Refusal}
 use Rattle.terms.specs.Maps.{map_faults}
 use Rattle.terms.specs.Alphabets.{alphabet_faults}
 use Rattle.terms.specs.Limits.{too_many_errors}
 use Rattle.terms.specs.Texts.{Text, size, string_faults, text_faults}
 use Rattle.terms.specs.Passed.{SoundText}
 use Rattle.terms.proofs.Refusals.{Numbered, numbered_append, text_numbered, fault_none, fault_first, fault_next}
+use Rattle.terms.proofs.Named.{handed_on}
 use Rattle.terms.proofs.Passed.{sound_text, passed}
 use Rattle.spans.specs.Palindromes.{centres}
 use Rattle.spans.specs.Centres.{Lengths, walk_faults, centres_faults, CentresReply}
@@ -88,9 +91,10 @@ module _ (x : Text) (d lent : ℕ) where
       (h.0, h.1, ltb-false _ _ h.2)
 
 -- The reply to a fill that is refused, and to one that is not.
-module _ (x : Text) (d : ℕ) (b : List ℕ) (k : ℕ) (e : k ≡ first_fault (centres_faults x d (length b))) where
-  pub centres_refused : (k ≡ 0 → ⊥) → CentresReply x d b b (record { number = k; count = 0 })
-  centres_refused n = record { number = e; refused = λ h. (refl, refl); accepted = λ h. absurd (n h) }
+module _ (x : Text) (d : ℕ) (b : List ℕ) where
+  pub centres_refused : (r : Result ℕ Refusal) (e : Refusal) → IsErrAnd r (λ f. f ≡ e) → refusal_number e ≡ first_fault (centres_faults x d (length b)) → CentresReply x d b b r
+  centres_refused (Ok n) e h q = absurd h
+  centres_refused (Err f) e h q = record { number = handed_on {A = ℕ} (Err f) e h ∙ q; refused = λ n. refl; accepted = tt }
 
-  pub centres_filled : k ≡ 0 → (a : List ℕ) → Lengths x d b a → (c : ℕ) → c ≡ centres (size x) → CentresReply x d b a (record { number = 0; count = c })
-  centres_filled z a l c h = record { number = sym z ∙ e; refused = λ n. absurd (n refl); accepted = λ y. (h, l) }
+  pub centres_filled : 0 ≡ first_fault (centres_faults x d (length b)) → (a : List ℕ) → Lengths x d b a → (c : ℕ) → c ≡ centres (size x) → CentresReply x d b a (Ok c)
+  centres_filled q a l c h = record { number = q; refused = λ n. absurd (n refl); accepted = (h, l) }

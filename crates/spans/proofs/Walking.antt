@@ -60,6 +60,9 @@ unfolding one
 one_le true = omega arith
 one_le false = omega arith
 
+pub one_fits : (n : ℕ) (b : Bool) → n ≡ one b → n ≤ 1
+one_fits n b e = rw e (one_le b)
+
 -- A centre of odd lengths has none where no letter of the alphabet is its own partner.
 pub barred : (x : Text) (d c : ℕ) → c % 2 ≡ 0 → own_partner x.map x.alphabet ≡ false → MaximalLength x d c 0
 barred x d c e n = record { attained = inl refl; longest = λ b M p h. absurd (false_true (sym (p.odd (odd_at b M p.some h)) ∙ n)) }

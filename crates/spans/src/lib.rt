@@ -5,14 +5,16 @@ pub mod outward;
 pub mod pairs;
 
 ghost use Rattle.std.specs.Prelude.{◌≡◌, ◌≤◌, length};
-ghost use Rattle.terms.specs.Refusals.{first_fault};
-ghost use Rattle.terms.specs.Texts.{text};
+ghost use Rattle.terms.specs.Refusals.{first_fault, fault_of};
 ghost use Rattle.terms.specs.Passed.{SoundText};
+ghost use Rattle.texts.specs.Lent.{text_of};
 ghost use Rattle.spans.specs.Palindromes.{centres};
 ghost use Rattle.spans.specs.Centres.{Lengths, walk_faults, centres_faults, CentresReply};
 
 use crate::outward::walk;
 use terms::limits::ERRORS;
+use terms::refusal::Refusal;
+use texts::Text;
 use texts::flags::own_partner;
 
 // The number of centres of n letters.
@@ -24,67 +26,44 @@ pub fn centre_count(n: usize) -> usize
 }
 
 // The maximal lengths of all centres, for a string and a map that meet no refusal; later entries stay.
-pub fn fill_lengths(s: &[u8], map: &[u8], d: usize, out: &mut [u16], alphabet: &[u8])
-    requires sound_text { SoundText (text s.now map.now alphabet.now) }
-    requires sizes { (d ≤ 15) × (centres (length s.now) ≤ length out.old) }
-    ensures { Lengths (text s.now map.now alphabet.now) d out.old out.new }
+pub fn fill_lengths(text: Text, d: usize, out: &mut [u16])
+    requires sound_text { SoundText (text_of text) }
+    requires sizes { (d ≤ 15) × (centres (length text.letters.now) ≤ length out.old) }
+    ensures { Lengths (text_of text.entry) d out.old out.new }
 {
-    let own = own_partner(map, alphabet);
-    let count = centre_count(s.len());
-    let mut c = 0;
-    while c < count {
-        let found = walk(s, map, d, c, own);
-        out[c] = found.length;
-        c += 1;
+    let own = own_partner(text.map, text.alphabet);
+    for c in 0..centre_count(text.letters.len()) {
+        out[c] = walk(text.letters, text.map, d, c, own).length;
     }
 }
 
-// The first refusal of a walk of whatever centre, 0 where there is none.
-pub fn walk_refusal(s: &[u8], map: &[u8], d: usize, alphabet: &[u8]) -> usize
-    ensures { result ≡ first_fault (walk_faults (text s.now map.now alphabet.now) d) }
+// The first refusal of a walk of whatever centre.
+pub fn check_walk(text: Text, d: usize) -> Result<(), Refusal>
+    ensures { fault_of result ≡ first_fault (walk_faults (text_of text.entry) d) }
 {
-    let number = texts::refusal(s, map, alphabet);
-    if number != 0 {
-        return number;
-    }
+    text.check()?;
     if ERRORS < d {
-        return 5;
+        return Err(Refusal::OutOfRange);
     }
-    0
+    Ok(())
 }
 
-// The first refusal of the fill of the centres into `lent` entries, 0 where there is none.
-fn centres_refusal(s: &[u8], map: &[u8], d: usize, lent: usize, alphabet: &[u8]) -> usize
-    ensures { result ≡ first_fault (centres_faults (text s.now map.now alphabet.now) d lent) }
+// The first refusal of the fill of the centres into `lent` entries.
+fn check_centres(text: Text, d: usize, lent: usize) -> Result<(), Refusal>
+    ensures { fault_of result ≡ first_fault (centres_faults (text_of text.entry) d lent) }
 {
-    let number = walk_refusal(s, map, d, alphabet);
-    if number != 0 {
-        return number;
+    check_walk(text, d)?;
+    if lent < centre_count(text.letters.len()) {
+        return Err(Refusal::TableTooShort);
     }
-    if lent < centre_count(s.len()) {
-        return 11;
-    }
-    0
+    Ok(())
 }
 
-// A refusal's number and 0, or 0 and the number of centres.
-#[derive(Clone, Copy)]
-pub struct CentreCount {
-    pub number: usize,
-    pub count: usize,
-}
-
-// Fills the slice with the maximal lengths of all centres; a refused slice stays.
-pub fn fill_centres(s: &[u8], map: &[u8], d: usize, out: &mut [u16], alphabet: &[u8]) -> CentreCount
-    ensures { CentresReply (text s.now map.now alphabet.now) d out.old out.new result }
+// Fills the slice with the maximal lengths of all centres, and answers their number; a refused slice stays.
+pub fn fill_centres(text: Text, d: usize, out: &mut [u16]) -> Result<usize, Refusal>
+    ensures { CentresReply (text_of text.entry) d out.old out.new result }
 {
-    let number = centres_refusal(s, map, d, out.len(), alphabet);
-    if number != 0 {
-        return CentreCount { number, count: 0 };
-    }
-    fill_lengths(s, map, d, out, alphabet);
-    CentreCount {
-        number: 0,
-        count: centre_count(s.len()),
-    }
+    check_centres(text, d, out.len())?;
+    fill_lengths(text, d, out);
+    Ok(centre_count(text.letters.len()))
 }

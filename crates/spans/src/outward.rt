@@ -8,15 +8,15 @@ ghost use Rattle.spans.specs.Work.{Own, Unbarred};
 use crate::pairs::differ;
 
 // What stops a walk: the first pair that would exceed d, of which a middle letter is one with itself; an end of the string; or the bar.
-#[derive(Clone, Copy)]
+#[derive(Clone, Copy, Debug, PartialEq, Eq)]
 pub enum Stop {
     Pair { left: usize, right: usize },
     End,
     Barred,
 }
 
-// How far a walk came: the length of the longest palindrome on it, 0 where there is none, and what stops it.
-#[derive(Clone, Copy)]
+// How far a walk came: the length of the longest palindrome on it, 0 where there is none, as `MaximalLength` has it, and what stops it.
+#[derive(Clone, Copy, Debug, PartialEq, Eq)]
 pub struct Reach {
     pub length: u16,
     pub stop: Stop,
@@ -42,32 +42,25 @@ fn walk_out(s: &[u8], map: &[u8], d: usize, c: usize) -> Reach
     ensures maximal { EverySound s.now map.now (Unbarred c) (λ x. MaximalLength x d c result.length) }
     ensures stopped { EverySound s.now map.now (Unbarred c) (λ x. Stops x d c result.stop) }
 {
-    let mut a = c / 2 + 1;
     let mut e = 0;
-    while 0 < a {
-        let i = a - 1;
+    for i in (0..c / 2 + 1).rev() {
         let j = c - i;
         if s.len() <= j {
-            return reached(c, a, Stop::End);
+            return reached(c, i + 1, Stop::End);
         }
-        let w = differ(s, map, i, j);
-        if d < e + w {
-            return reached(c, a, Stop::Pair { left: i, right: j });
+        e += differ(s, map, i, j);
+        if d < e {
+            return reached(c, i + 1, Stop::Pair { left: i, right: j });
         }
-        e = e + w;
-        a = i;
     }
-    reached(c, a, Stop::End)
+    reached(c, 0, Stop::End)
 }
 
 // Whether the centre c is barred: its lengths are odd, and no letter of the alphabet is its own partner, which `own` denies.
 fn bars(c: usize, own: bool) -> bool
     ensures { result ≡ (not own && eqb (c % 2) 0) }
 {
-    if own {
-        return false;
-    }
-    c % 2 == 0
+    !own && c % 2 == 0
 }
 
 // The maximal length of the centre c and what stops it; `own` says whether the map has an own-partner letter within the alphabet.

@@ -7,8 +7,7 @@ pub(crate) fn differ(s: &[u8], map: &[u8], i: usize, j: usize) -> usize
     requires { (length map.now ≡ 256) × (i < length s.now) × (j < length s.now) }
     ensures { result ≡ one (differs s.now map.now i j) }
 {
-    let b = s[j] as usize;
-    if s[i] == map[b] { 0 } else { 1 }
+    usize::from(s[i] != map[usize::from(s[j])])
 }
 
 // The error count of the span of len letters from a, from its outermost pair inward.
@@ -16,16 +15,13 @@ pub fn count_errors(s: &[u8], map: &[u8], a: usize, len: usize) -> usize
     requires { (length map.now ≡ 256) × (length s.now ≤ 1000) × (a + len ≤ length s.now) }
     ensures { result ≡ error_count s.now map.now a len }
 {
-    let mut lo = a;
-    let mut left = len;
     let mut e = 0;
-    while 1 < left {
-        e = e + differ(s, map, lo, lo + left - 1);
-        lo += 1;
-        left -= 2;
+    for k in 0..len / 2 {
+        e += differ(s, map, a + k, a + len - 1 - k);
     }
-    if left == 1 {
-        return e + differ(s, map, lo, lo);
+    let odd = len % 2 == 1;
+    if odd {
+        e += differ(s, map, a + len / 2, a + len / 2);
     }
     e
 }

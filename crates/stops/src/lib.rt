@@ -2,59 +2,38 @@
 #![tactic(auto)]
 
 ghost use Rattle.std.specs.Prelude.{◌≡◌, [], ◌∷◌};
-ghost use Rattle.terms.specs.Refusals.{first_fault};
-ghost use Rattle.terms.specs.Texts.{text};
+ghost use Rattle.terms.specs.Refusals.{first_fault, fault_of};
+ghost use Rattle.texts.specs.Lent.{text_of};
 ghost use Rattle.stops.specs.Centre.{centre_faults, CentreReply, reply_values};
 
-use spans::outward::{Stop, walk};
-use spans::{centre_count, walk_refusal};
+use spans::outward::{Reach, Stop, walk};
+use spans::{centre_count, check_walk};
+use terms::refusal::Refusal;
+use texts::Text;
 use texts::flags::own_partner;
 
-// The first refusal of the question for the centre c, 0 where there is none.
-fn centre_refusal(s: &[u8], map: &[u8], d: usize, c: usize, alphabet: &[u8]) -> usize
-    ensures { result ≡ first_fault (centre_faults (text s.now map.now alphabet.now) d c) }
+// The first refusal of the question for the centre c.
+fn check_centre(text: Text, d: usize, c: usize) -> Result<(), Refusal>
+    ensures { fault_of result ≡ first_fault (centre_faults (text_of text.entry) d c) }
 {
-    let number = walk_refusal(s, map, d, alphabet);
-    if number != 0 {
-        return number;
+    check_walk(text, d)?;
+    let count = centre_count(text.letters.len());
+    if count <= c {
+        return Err(Refusal::NoSuchPlace);
     }
-    if centre_count(s.len()) <= c {
-        return 6;
-    }
-    0
-}
-
-// A refusal's number with length 0 and the end, or 0, the maximal length of a centre and what stops it.
-#[derive(Clone, Copy)]
-pub struct CentreStop {
-    pub number: usize,
-    pub length: usize,
-    pub stop: Stop,
+    Ok(())
 }
 
 // The question for the centre c: its maximal length, and what stops it.
-pub fn centre_stop(s: &[u8], map: &[u8], d: usize, c: usize, alphabet: &[u8]) -> CentreStop
-    ensures { CentreReply (text s.now map.now alphabet.now) d c result }
+pub fn centre_stop(text: Text, d: usize, c: usize) -> Result<Reach, Refusal>
+    ensures { CentreReply (text_of text.entry) d c result }
 {
-    let number = centre_refusal(s, map, d, c, alphabet);
-    if number != 0 {
-        return CentreStop {
-            number,
-            length: 0,
-            stop: Stop::End,
-        };
-    }
-    let own = own_partner(map, alphabet);
-    let found = walk(s, map, d, c, own);
-    let stop = found.stop;
-    CentreStop {
-        number: 0,
-        length: found.length as usize,
-        stop,
-    }
+    check_centre(text, d, c)?;
+    let own = own_partner(text.map, text.alphabet);
+    Ok(walk(text.letters, text.map, d, c, own))
 }
 
-// A reply in numbers: the refusal's number and zeros, or 0, the length, the case's number and its two values.
+// A reply in numbers, as it is printed, and so no Result: the refusal's number and zeros, or 0, the length, the case's number and its two values.
 #[derive(Clone, Copy)]
 pub struct CentreFigures {
     pub number: usize,
@@ -65,40 +44,28 @@ pub struct CentreFigures {
 }
 
 // The reply in numbers, as it is printed.
-pub fn figures(found: CentreStop) -> CentreFigures
-    ensures { (result.number ≡ found.number) × ((result.length ∷ result.case ∷ result.left ∷ result.right ∷ []) ≡ reply_values found) }
+pub fn figures(found: Result<Reach, Refusal>) -> CentreFigures
+    ensures { (result.number ≡ fault_of found) × ((result.length ∷ result.case ∷ result.left ∷ result.right ∷ []) ≡ reply_values found) }
 {
-    let number = found.number;
-    if number != 0 {
-        return CentreFigures {
-            number,
+    match found {
+        Ok(Reach { length, stop }) => {
+            let (case, left, right) = match stop {
+                Stop::Pair { left, right } => (1, left, right),
+                Stop::End => (2, 0, 0),
+                Stop::Barred => (3, 0, 0),
+            };
+            CentreFigures {
+                number: 0,
+                length: usize::from(length),
+                case,
+                left,
+                right,
+            }
+        }
+        Err(why) => CentreFigures {
+            number: why.number(),
             length: 0,
             case: 0,
-            left: 0,
-            right: 0,
-        };
-    }
-    let length = found.length;
-    let stop = found.stop;
-    match stop {
-        Stop::Pair { left, right } => CentreFigures {
-            number: 0,
-            length,
-            case: 1,
-            left,
-            right,
-        },
-        Stop::End => CentreFigures {
-            number: 0,
-            length,
-            case: 2,
-            left: 0,
-            right: 0,
-        },
-        Stop::Barred => CentreFigures {
-            number: 0,
-            length,
-            case: 3,
             left: 0,
             right: 0,
         },

@@ -4,6 +4,7 @@
 pub mod alphabets;
 pub mod limits;
 pub mod maps;
+pub mod refusal;
 
 // The most letters of a string.
 pub const LETTERS: usize = 1000;

@@ -1,16 +1,17 @@
 // The limits of a question, and refusals 4 and 5.
 ghost use Rattle.std.specs.Prelude.{◌≡◌};
-ghost use Rattle.terms.specs.Refusals.{first_fault};
+ghost use Rattle.terms.specs.Refusals.{first_fault, fault_of};
 ghost use Rattle.terms.specs.Limits.{wrong_kind, kind_faults, lengths_faults, limits_faults};
 
 use crate::LETTERS;
+use crate::refusal::Refusal;
 
 // The most gaps, and the most errors, that a question may allow.
 pub const GAPS: usize = 15;
 
 pub const ERRORS: usize = 15;
 
-// Kind, shortest length, gap limit and error limit travel together.
+// Kind, shortest length, gap limit and error limit travel together. The kind is a number and no enum: any number is asked, and `limits_faults` speaks of each.
 #[derive(Clone, Copy)]
 pub struct Limits {
     pub kind: usize,
@@ -23,56 +24,43 @@ pub struct Limits {
 fn wrong_kind(kind: usize) -> bool
     ensures { result ≡ wrong_kind kind }
 {
-    if kind == 1 {
-        return false;
-    }
-    kind != 2
+    kind != 1 && kind != 2
 }
 
-// The first refusal that kind and error limit meet, 0 where they meet none.
-pub fn kind_refusal(kind: usize, d: usize) -> usize
-    ensures { result ≡ first_fault (kind_faults kind d) }
+// The first refusal that kind and error limit meet.
+pub fn check_kind(kind: usize, d: usize) -> Result<(), Refusal>
+    ensures { fault_of result ≡ first_fault (kind_faults kind d) }
 {
     if wrong_kind(kind) {
-        return 4;
+        return Err(Refusal::WrongKind);
     }
     if ERRORS < d {
-        return 5;
+        return Err(Refusal::OutOfRange);
     }
-    if kind != 1 {
-        return 0;
+    // Kind 1 allows no errors.
+    let exact = kind == 1;
+    if exact && d != 0 {
+        return Err(Refusal::OutOfRange);
     }
-    if d != 0 {
-        return 5;
-    }
-    0
+    Ok(())
 }
 
-// The first refusal that shortest length and gap limit meet, 0 where they meet none.
-pub fn lengths_refusal(m: usize, g: usize) -> usize
-    ensures { result ≡ first_fault (lengths_faults m g) }
+// The first refusal that shortest length and gap limit meet.
+pub fn check_lengths(m: usize, g: usize) -> Result<(), Refusal>
+    ensures { fault_of result ≡ first_fault (lengths_faults m g) }
 {
-    if m == 0 {
-        return 5;
+    if m == 0 || LETTERS < m || GAPS < g {
+        return Err(Refusal::OutOfRange);
     }
-    if LETTERS < m {
-        return 5;
-    }
-    if GAPS < g {
-        return 5;
-    }
-    0
+    Ok(())
 }
 
 impl Limits {
-    // The first refusal that the limits meet, 0 where they meet none.
-    pub fn refusal(self) -> usize
-        ensures { result ≡ first_fault (limits_faults self) }
+    // The first refusal that the limits meet.
+    pub fn check(self) -> Result<(), Refusal>
+        ensures { fault_of result ≡ first_fault (limits_faults self) }
     {
-        let number = kind_refusal(self.kind, self.d);
-        if number != 0 {
-            return number;
-        }
-        lengths_refusal(self.m, self.g)
+        check_kind(self.kind, self.d)?;
+        check_lengths(self.m, self.g)
     }
 }

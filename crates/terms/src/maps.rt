@@ -1,19 +1,16 @@
 // The two maps supplied, and refusals 2 and 3.
 ghost use Rattle.std.specs.Prelude.{◌≡◌, length};
-ghost use Rattle.terms.specs.Refusals.{first_fault};
+ghost use Rattle.terms.specs.Refusals.{first_fault, fault_of};
 ghost use Rattle.terms.specs.Maps.{partner, plain_map, complement_map, own_inverse, map_faults};
+
+use crate::refusal::Refusal;
+use std::array;
 
 // Each byte its own partner.
 pub fn plain() -> [u8; 256]
     ensures { result ≡ plain_map }
 {
-    let mut map = [0u8; 256];
-    let mut x: usize = 0;
-    while x < 256 {
-        map[x] = x as u8;
-        x += 1;
-    }
-    map
+    array::from_fn(|x| x as u8)
 }
 
 // The complement's rule: four letters, and the rest themselves.
@@ -33,13 +30,7 @@ fn complement_of(letter: u8) -> u8
 pub fn complement() -> [u8; 256]
     ensures { result ≡ complement_map }
 {
-    let mut map = [0u8; 256];
-    let mut x: usize = 0;
-    while x < 256 {
-        map[x] = complement_of(x as u8);
-        x += 1;
-    }
-    map
+    array::from_fn(|x| complement_of(x as u8))
 }
 
 // Whether f(f(x)) = x for every byte x.
@@ -47,27 +38,25 @@ fn own_inverse(map: &[u8]) -> bool
     requires { length map.now ≡ 256 }
     ensures { result ≡ own_inverse map.now }
 {
-    let mut x: usize = 0;
-    while x < 256 {
+    for x in 0..256usize {
         let y = map[x] as usize;
         let z = map[y] as usize;
         if z != x {
             return false;
         }
-        x += 1;
     }
     true
 }
 
-// The first refusal that a map meets, 0 where it meets none.
-pub fn refusal(map: &[u8]) -> usize
-    ensures { result ≡ first_fault (map_faults map.now) }
+// The first refusal that a map meets.
+pub fn check(map: &[u8]) -> Result<(), Refusal>
+    ensures { fault_of result ≡ first_fault (map_faults map.now) }
 {
     if map.len() != 256 {
-        return 2;
+        return Err(Refusal::MapNot256);
     }
     if !own_inverse(map) {
-        return 3;
+        return Err(Refusal::MapNotOwnInverse);
     }
-    0
+    Ok(())
 }

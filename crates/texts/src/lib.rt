@@ -4,50 +4,56 @@
 pub mod flags;
 
 ghost use Rattle.std.specs.Prelude.{◌≡◌};
-ghost use Rattle.terms.specs.Refusals.{first_fault};
-ghost use Rattle.terms.specs.Texts.{text, string_faults, text_faults, pair_faults, opening_faults};
+ghost use Rattle.terms.specs.Refusals.{first_fault, fault_of};
+ghost use Rattle.terms.specs.Texts.{string_faults, text_faults, pair_faults, opening_faults};
+ghost use Rattle.texts.specs.Lent.{text_of};
 
 use terms::limits::Limits;
+use terms::refusal::Refusal;
 use terms::{LETTERS, maps};
 
-// The first refusal that a string and a map meet, 0 where they meet none.
-pub fn string_refusal(s: &[u8], map: &[u8]) -> usize
-    ensures { result ≡ first_fault (string_faults s.now map.now) }
+// The first refusal that a string and a map meet.
+pub fn check_string(s: &[u8], map: &[u8]) -> Result<(), Refusal>
+    ensures { fault_of result ≡ first_fault (string_faults s.now map.now) }
 {
     if LETTERS < s.len() {
-        return 1;
+        return Err(Refusal::StringTooLong);
     }
-    maps::refusal(map)
+    maps::check(map)
 }
 
 // The same for two strings with one map: either too long counts.
-pub fn pair_refusal(s: &[u8], t: &[u8], map: &[u8]) -> usize
-    ensures { result ≡ first_fault (pair_faults s.now t.now map.now) }
+pub fn check_pair(s: &[u8], t: &[u8], map: &[u8]) -> Result<(), Refusal>
+    ensures { fault_of result ≡ first_fault (pair_faults s.now t.now map.now) }
 {
     if LETTERS < t.len() {
-        return 1;
+        return Err(Refusal::StringTooLong);
     }
-    string_refusal(s, map)
+    check_string(s, map)
 }
 
-// The first refusal that a string, a map and an alphabet meet.
-pub fn refusal(s: &[u8], map: &[u8], alphabet: &[u8]) -> usize
-    ensures { result ≡ first_fault (text_faults (text s.now map.now alphabet.now)) }
-{
-    let number = string_refusal(s, map);
-    if number != 0 {
-        return number;
-    }
-    flags::refusal(s, map, alphabet)
+// A string with its map and alphabet, lent.
+#[derive(Clone, Copy)]
+pub struct Text<'a> {
+    pub letters: &'a [u8],
+    pub map: &'a [u8],
+    pub alphabet: &'a [u8],
 }
 
-// The first refusal that an opening meets, 0 where it meets none.
-pub fn opening_refusal(s: &[u8], map: &[u8], limits: Limits, alphabet: &[u8]) -> usize
-    ensures { result ≡ first_fault (opening_faults (text s.now map.now alphabet.now) limits) }
-{
-    let number = refusal(s, map, alphabet);
-    if number != 0 {
-        return number;
+impl<'a> Text<'a> {
+    // The first refusal that the string, the map and the alphabet meet.
+    pub fn check(self) -> Result<(), Refusal>
+        ensures { fault_of result ≡ first_fault (text_faults (text_of self.entry)) }
+    {
+        check_string(self.letters, self.map)?;
+        flags::check(self.letters, self.map, self.alphabet)
     }
-    limits.refusal()
+
+    // The first refusal that an opening meets.
+    pub fn check_opening(self, limits: Limits) -> Result<(), Refusal>
+        ensures { fault_of result ≡ first_fault (opening_faults (text_of self.entry) limits) }
+    {
+        self.check()?;
+        limits.check()
+    }
 }

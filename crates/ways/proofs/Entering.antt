@@ -1,22 +1,19 @@
 -- One centre more is entered for kind 2, from the last to the first. Assumes nothing.
-use mathlib.Core.Path.{◌≡◌, refl, ap, subst, subst⁻¹}
+use mathlib.Core.Path.{◌≡◌, ap, subst, subst⁻¹}
 use mathlib.Core.List.{List}
 use mathlib.Core.Logic.{⊎_elim}
 use Prim.Native.Nat.{ℕ, ◌+◌, ◌-◌, ◌*◌, ◌≤◌, ◌<◌}
 use native.Mathlib.Omega.{arith}
 use native.Mathlib.Nat.{eq-or-lt_of_le}
 use lib.ListN.{length, get_or, set, length-set}
-use Rattle.tilings.specs.Work.{PieceBy}
+use Rattle.ways.specs.declared.Spans.{Spans}
+use Rattle.ways.specs.Spans.{PieceOf}
 use Rattle.ways.specs.Ways.{Nowhere, On, Step, Entered}
 use Rattle.ways.proofs.Stores.{after_set}
 
--- The centres entered, by another number for the same centre.
-pub entered_from : {lens : List ℕ} {n m c d : ℕ} {first next : List ℕ} → c ≡ d → Entered lens n m c first next → Entered lens n m d first next
-entered_from e f = rw e at f
-
 -- Before the first: nothing is entered, and no piece has a centre so late.
-pub enter_start : (lens : List ℕ) (n m : ℕ) {first next : List ℕ} → n ≤ 1000 → n ≤ length first → 2 * n ≤ length next + 1 → Nowhere first → Nowhere next → Entered lens n m (n + n - 1) first next
-enter_start lens n m s w l f x =
+pub enter_start : (s : Spans) {first next : List ℕ} → s.n ≤ 1000 → s.n ≤ length first → 2 * s.n ≤ length next + 1 → Nowhere first → Nowhere next → Entered s (2 * s.n - 1) first next
+enter_start s short w l f x =
     record {
       wide = w;
       long = l;
@@ -28,20 +25,20 @@ enter_start lens n m s w l f x =
     }
 
 -- A piece's centre is on the way of its start.
-piece_on : {lens : List ℕ} {n m a L : ℕ} → PieceBy lens n 2 m a L → On lens n 2 m a (a + a + L - 1)
-piece_on p _ = ⊎_elim (λ w. absurd (omega (arith, w.0))) (λ w. omega arith) p.is
+piece_on : (s : Spans) {a L : ℕ} → PieceOf s a L → On s a (a + a + L - 1)
+piece_on s p own = ⊎_elim (λ w. absurd (omega (arith, w.0))) (λ w. omega arith) p.is
 
-module _ {lens : List ℕ} {n m c : ℕ} {first next : List ℕ} (f : Entered lens n m (c + 1) first next) where
+module _ {s : Spans} {c : ℕ} {first next : List ℕ} (own : s.kind ≡ 2) (f : Entered s (c + 1) first next) where
   -- Where c is not on the way of a, a piece of a from c on is behind c.
-  behind : {a L : ℕ} → PieceBy lens n 2 m a L → (On lens n 2 m a c → ⊥) → c ≤ a + a + L - 1 → c + 1 ≤ a + a + L - 1
+  behind : {a L : ℕ} → PieceOf s a L → (On s a c → ⊥) → c ≤ a + a + L - 1 → c + 1 ≤ a + a + L - 1
   behind {a} {L} p none h =
       ⊎_elim
-      (λ (e : c ≡ a + a + L - 1). absurd (none (subst⁻¹ (On lens n 2 m a) e (piece_on p))))
+      (λ (e : c ≡ a + a + L - 1). absurd (none (subst⁻¹ (On s a) e (piece_on s p))))
       (λ (w : c < a + a + L - 1). omega arith)
       (eq-or-lt_of_le h)
 
   -- The centre is on no way: nothing is stored.
-  pub enter_none : ((a : ℕ) → On lens n 2 m a c → ⊥) → Entered lens n m c first next
+  pub enter_none : ((a : ℕ) → On s a c → ⊥) → Entered s c first next
   enter_none none =
       record {
         wide = f.wide;
@@ -50,7 +47,7 @@ module _ {lens : List ℕ} {n m c : ℕ} {first next : List ℕ} (f : Entered le
         step = λ y h l.
             ⊎_elim
             (λ (e : c ≡ y).
-            subst (λ (z : ℕ). Step lens n 2 m n z (get_or next z 0)) e
+            subst (λ (z : ℕ). Step s s.n z (get_or next z 0)) e
             (record { on = λ a i o. absurd (none a o); skips = λ a L i o. absurd (none a o) }))
             (λ (w : c < y). f.step y (omega arith) l)
             (eq-or-lt_of_le h);
@@ -60,17 +57,17 @@ module _ {lens : List ℕ} {n m c : ℕ} {first next : List ℕ} (f : Entered le
       }
 
   -- The centre is on the way of a: it becomes the first there, and leads to the one that was.
-  pub enter_one : (a : ℕ) → 1 ≤ m → c + 1 < 2 * n → m ≤ get_or lens c 0 → a + a + get_or lens c 0 ≡ c + 1 → Entered lens n m c (set first a c) (set next c (get_or first a 0))
-  enter_one a s u t e =
+  pub enter_one : (a : ℕ) → 1 ≤ s.m → c + 1 < 2 * s.n → s.m ≤ get_or s.lens.now c 0 → a + a + get_or s.lens.now c 0 ≡ c + 1 → Entered s c (set first a c) (set next c (get_or first a 0))
+  enter_one a g u t e =
       record {
         wide = rw length-set f.wide;
         long = rw length-set f.long;
-        later = after_set (λ y z. y + 1 < 2 * n → y < z) next c _ x (λ _. omega (arith, f.past a (omega arith))) (λ y _. f.later y);
-        step = after_set (λ y z. c ≤ y → y + 1 < 2 * n → Step lens n 2 m n y z) next c _ x (λ _ _. leads) (λ y d h. f.step y (omega arith));
-        past = after_set (λ b z. b < n → c ≤ z) first a c w (λ _. omega arith) (λ b _ h. omega (arith, f.past b h));
-        on = after_set (λ b z. b < n → z < n + b → On lens n 2 m b z) first a c w (λ _ _ _. (t, e)) (λ b _. f.on b);
+        later = after_set (λ y z. y + 1 < 2 * s.n → y < z) next c _ x (λ _. omega (arith, f.past a (omega arith))) (λ y _. f.later y);
+        step = after_set (λ y z. c ≤ y → y + 1 < 2 * s.n → Step s s.n y z) next c _ x (λ _ _. leads) (λ y d h. f.step y (omega arith));
+        past = after_set (λ b z. b < s.n → c ≤ z) first a c w (λ _. omega arith) (λ b _ h. omega (arith, f.past b h));
+        on = after_set (λ b z. b < s.n → z < s.n + b → On s b z) first a c w (λ _ _ _. (t, e)) (λ b _. f.on b);
         skips = λ b L.
-            after_set (λ d z. PieceBy lens n 2 m d L → c ≤ d + d + L - 1 → z ≤ d + d + L - 1) first a c w (λ _ h. h)
+            after_set (λ d z. PieceOf s d L → c ≤ d + d + L - 1 → z ≤ d + d + L - 1) first a c w (λ _ h. h)
             (λ d k p h. f.skips d L p (behind p (λ o. k (only d o)) h)) b;
       }
     where
@@ -80,10 +77,10 @@ module _ {lens : List ℕ} {n m c : ℕ} {first next : List ℕ} (f : Entered le
       w : a < length first
       w = omega (arith, f.wide)
 
-      only : (b : ℕ) → On lens n 2 m b c → b ≡ a
-      only b o = omega (arith, o refl)
+      only : (b : ℕ) → On s b c → b ≡ a
+      only b o = omega (arith, o own)
 
-      leads : Step lens n 2 m n c (get_or first a 0)
+      leads : Step s s.n c (get_or first a 0)
       leads =
           record {
             on = λ b i o h. rw (only b o) (f.on a (omega arith) (omega (arith, only b o)));

@@ -1,2 +1,3 @@
--- Working notions of the ways.
+-- Which spans are pieces, and working notions of the ways.
+pub mod Spans
 pub mod Ways

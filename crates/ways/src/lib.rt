@@ -3,42 +3,77 @@
 #![tactic(auto)]
 
 ghost use Rattle.std.specs.Prelude.{◌≡◌, ◌+◌, ◌-◌, ◌*◌, ◌≤◌, ◌<◌, length, get_or};
+ghost use Rattle.ways.specs.Spans.{Whole};
 ghost use Rattle.ways.specs.Ways.{Nowhere, Laid, EachNext, Entered};
 
-// No centre: more than any string has.
+// No centre: more than any string has. A number and no Option: the lists of centres are in fixed memory, where an Option takes twice the room.
 pub const NOWHERE: u16 = 2000;
 
-// For kind 2 the centre c is put before the first of the start of its maximal palindrome, unless that is no piece.
-fn enter(lens: &[u16], n: usize, m: usize, c: usize, first: &mut [u16], next: &mut [u16])
-    requires sizes { (n ≤ 1000) × (2 * n ≤ length lens.now + 1) × (1 ≤ m) × (c + 1 < 2 * n) }
-    requires entered { Entered lens.now n m (c + 1) first.old next.old }
-    ensures { Entered lens.now n m c first.new next.new }
-{
-    let len = lens[c] as usize;
-    if len < m {
-        return;
-    }
-    if c + 1 < len {
-        return;
-    }
-    let start = (c + 1 - len) / 2;
-    if start + start + len != c + 1 {
-        return;
-    }
-    next[c] = first[start];
-    first[start] = c as u16;
+// Which spans are pieces: the maximal lengths of the centres, the number of letters, the kind and the shortest length.
+#[derive(Clone, Copy)]
+pub struct Spans<'a> {
+    pub lens: &'a [u16],
+    pub n: usize,
+    pub kind: usize,
+    pub m: usize,
 }
 
-// Kind 2: each start's own centres.
-fn lay_own(lens: &[u16], n: usize, m: usize, first: &mut [u16], next: &mut [u16])
-    requires sizes { (n ≤ 1000) × (2 * n ≤ length lens.now + 1) × (1 ≤ m) × (n ≤ length first.old) × (2 * n ≤ length next.old + 1) }
-    requires nowhere { Nowhere first.old × Nowhere next.old }
-    ensures { Laid lens.now n 2 m first.new next.new }
-{
-    let mut c = n + n;
-    while 1 < c {
-        enter(lens, n, m, c - 2, first, next);
-        c -= 1;
+impl<'a> Spans<'a> {
+    // For kind 2 the centre c is put before the first of the start of its maximal palindrome, unless that is no piece.
+    fn enter(self, c: usize, first: &mut [u16], next: &mut [u16])
+        requires sizes { Whole self × (self.kind ≡ 2) × (c + 1 < 2 * self.n) }
+        requires entered { Entered self (c + 1) first.old next.old }
+        ensures { Entered self.entry c first.new next.new }
+    {
+        let len = usize::from(self.lens[c]);
+        if len < self.m {
+            return;
+        }
+        if c + 1 < len {
+            return;
+        }
+        let start = (c + 1 - len) / 2;
+        if start + start + len != c + 1 {
+            return;
+        }
+        next[c] = first[start];
+        first[start] = c as u16;
+    }
+
+    // Kind 2: each start's own centres.
+    fn lay_own(self, first: &mut [u16], next: &mut [u16])
+        requires sizes { Whole self × (self.kind ≡ 2) × (self.n ≤ length first.old) × (2 * self.n ≤ length next.old + 1) }
+        requires nowhere { Nowhere first.old × Nowhere next.old }
+        ensures { Laid self.entry first.new next.new }
+    {
+        for c in (0..(2 * self.n).saturating_sub(1)).rev() {
+            self.enter(c, first, next);
+        }
+    }
+
+    // The ways of all starts.
+    pub fn lay(self, first: &mut [u16], next: &mut [u16])
+        requires sizes { Whole self × (self.n ≤ length first.old) × (2 * self.n ≤ length next.old + 1) }
+        requires nowhere { Nowhere first.old × Nowhere next.old }
+        ensures { Laid self.entry first.new next.new }
+    {
+        if self.kind == 2 {
+            self.lay_own(first, next);
+        } else {
+            lay_all(self.n, next);
+        }
+    }
+
+    // The first centre of the way of the start a.
+    pub fn first_of(self, first: &[u16], a: usize) -> usize
+        requires { (a < length first.now) × (a ≤ 1000) × (1 ≤ self.m) × (self.m ≤ 1000) }
+        ensures { (self.entry.kind ≡ 2 → result ≡ get_or first.now a 0) × ((self.entry.kind ≡ 2 → ⊥) → result ≡ a + a + self.entry.m - 1) }
+    {
+        if self.kind == 2 {
+            usize::from(first[a])
+        } else {
+            a + a + self.m - 1
+        }
     }
 }
 
@@ -47,33 +82,7 @@ fn lay_all(n: usize, next: &mut [u16])
     requires { (n ≤ 1000) × (2 * n ≤ length next.old + 1) }
     ensures { EachNext n next.old next.new }
 {
-    let mut c = 1;
-    while c < n + n {
-        next[c - 1] = c as u16;
-        c += 1;
+    for (c, to) in next[..(2 * n).saturating_sub(1)].iter_mut().enumerate() {
+        *to = (c + 1) as u16;
     }
-}
-
-// The ways of all starts.
-pub fn lay(lens: &[u16], n: usize, kind: usize, m: usize, first: &mut [u16], next: &mut [u16])
-    requires sizes { (n ≤ 1000) × (2 * n ≤ length lens.now + 1) × (1 ≤ m) × (n ≤ length first.old) × (2 * n ≤ length next.old + 1) }
-    requires nowhere { Nowhere first.old × Nowhere next.old }
-    ensures { Laid lens.now n kind m first.new next.new }
-{
-    if kind == 2 {
-        lay_own(lens, n, m, first, next);
-    } else {
-        lay_all(n, next);
-    }
-}
-
-// The first centre of the way of the start a.
-pub fn first_of(kind: usize, m: usize, first: &[u16], a: usize) -> usize
-    requires { (a < length first.now) × (a ≤ 1000) × (1 ≤ m) × (m ≤ 1000) }
-    ensures { (kind ≡ 2 → result ≡ get_or first.now a 0) × ((kind ≡ 2 → ⊥) → result ≡ a + a + m - 1) }
-{
-    if kind == 2 {
-        return first[a] as usize;
-    }
-    a + a + m - 1
 }

@@ -4,10 +4,10 @@ use native.Mathlib.Omega.{arith}
 use Rattle.call.proofs.answer_piece.Goals as goal
 
 pub loop-s-init : goal.loop-s-init
-loop-s-init c = (omega arith, onward_start _ _ _ c.args.piece.now)
+loop-s-init g c = (omega arith, onward_start _ _ _ c.args.piece.now)
 
 pub loop-s-preserved : goal.loop-s-preserved
-loop-s-preserved c = (omega arith, onward_next _ _ _ _ _ _ _ _ _ _ _ _ _ _ _ _ c.loop-s.invariant.1 c.step-s.ensures.stepping)
+loop-s-preserved g c = (omega arith, onward_next _ _ _ _ _ _ _ _ _ _ _ _ _ _ _ _ c.loop-s.invariant.1 c.step-s.ensures.stepping)
 
 pub returns : goal.returns
-returns c = record { at_bound = omega arith; reading = onward_end _ _ _ _ _ _ _ _ c.loop-s.invariant.1 c.loop-s-test.false }
+returns g c = record { at_bound = omega arith; reading = onward_end _ _ _ _ _ _ _ _ c.loop-s.invariant.1 c.loop-s-test.false }

@@ -1,5 +1,4 @@
 -- `finish` meets its contract. Assumes nothing.
-use native.Mathlib.Nat.{sub-zero}
 use Rattle.printing.proofs.Laws.{put_end}
 use Rattle.call.proofs.Stepping.{finished_empty, finished_some}
 use native.Mathlib.Omega.{arith}
@@ -9,4 +8,4 @@ pub returns-then-at-eq0 : goal.returns-then-at-eq0
 returns-then-at-eq0 c = record { written_in_bounds = omega arith; finishing = finished_empty _ _ _ (omega arith) (omega arith) }
 
 pub returns : goal.returns
-returns c = let q = rw sub-zero at c.answer.ensures in record { written_in_bounds = put_end q.puts; finishing = finished_some _ _ _ (omega (arith, c.requires)) c.if-at-eq0.false q }
+returns c = record { written_in_bounds = let h = put_end c.answer.ensures.puts in omega (arith, h); finishing = finished_some _ _ _ (omega arith) c.if-at-eq0.false c.answer.ensures }

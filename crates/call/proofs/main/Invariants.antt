@@ -1,11 +1,6 @@
--- `main` is safe and ends. Assumes nothing.
-use mathlib.Core.Path.{◌≡◌}
+-- `main` is safe and ends: what is kept of a line stands in its buffer. Assumes nothing.
 use Prim.Native.Nat.{◌≤◌}
-use lib.ListN.{length}
 use Rattle.call.proofs.main.Given as goal
 
-abbrev pub invariant-loop-reads : goal.invariant-loop-reads
-invariant-loop-reads l = (length l.bytes ≡ length l.initial.bytes) × (length l.piece ≡ length l.initial.piece) × (length l.table ≡ length l.initial.table) × (length l.room ≡ length l.initial.room) × (length l.out ≡ length l.initial.out) × (l.b.at ≤ 1041)
-
-abbrev pub decreases-loop-reads : goal.decreases-loop-reads
-decreases-loop-reads l = l.reads
+abbrev pub invariant-loop : goal.invariant-loop
+invariant-loop l = l.b.at ≤ 1041

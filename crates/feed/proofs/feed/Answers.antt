@@ -1,15 +1,15 @@
 -- `feed` meets its contract. Assumes nothing.
-use native.Mathlib.Omega.{arith}
-use lib.ListN.{drop, length-drop}
-use Rattle.feed.proofs.Ends.{within}
-use Rattle.feed.proofs.Keeping.{line_put, line_ends, piece_ends}
+use mathlib.Core.Path.{sym}
+use Rattle.std.proofs.Common.{rules}
+use Rattle.feed.proofs.Keeping.{left, line_put, line_ends, piece_ends}
 use Rattle.feed.proofs.feed.Goals as goal
 
-pub slice_bounds-put_bytes-end : goal.slice_bounds-put_bytes-end
-slice_bounds-put_bytes-end c = let a = c.args in omega (arith, within (drop a.from a.piece.now), length-drop a.from a.piece.now)
+pub returns-in-Some : goal.returns-in-Some
+returns-in-Some c =
+    let p = line_put c.args.piece.now c.args.from _ c.end_of-end.ensures c.unwrap_or.ensures in
+    record { takes_on = line_ends (p (search rules)) _ (rw (left c.args.piece.now c.args.from) at (sym c.in-Some.ensures)); put = p (search rules) }
 
-pub returns-then-end-piece : goal.returns-then-end-piece
-returns-then-end-piece c = let e = c.end_of-end.ensures in record { takes_on = line_ends e c.put_bytes-kept.ensures c.if-end-piece.true; put = line_put _ _ e c.put_bytes-kept.ensures }
-
-pub returns : goal.returns
-returns c = let e = c.end_of-end.ensures in record { takes_on = piece_ends e c.put_bytes-kept.ensures c.if-end-piece.false; put = line_put _ _ e c.put_bytes-kept.ensures }
+pub returns-in-None : goal.returns-in-None
+returns-in-None c =
+    let p = line_put c.args.piece.now c.args.from _ c.end_of-end.ensures c.unwrap_or.ensures in
+    record { takes_on = piece_ends (p (search rules)) c.requires.from_in_bounds (rw (left c.args.piece.now c.args.from) at (sym c.in-None.ensures)); put = p (search rules) }

@@ -1,11 +1,6 @@
 -- `read_hex` meets its contract: k bytes are read. Assumes nothing.
-use Prim.Native.Nat.{◌-◌}
-use lib.ListN.{length}
 use Rattle.hexadecimal.proofs.Reading.{Read}
 use Rattle.hexadecimal.proofs.read_hex.Given as goal
 
 abbrev pub invariant-loop-k : goal.invariant-loop-k
 invariant-loop-k l = Read l.s l.from l.initial.room l.room l.k l.at
-
-abbrev pub decreases-loop-k : goal.decreases-loop-k
-decreases-loop-k l = length l.initial.room - l.k

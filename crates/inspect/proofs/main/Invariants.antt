@@ -1,11 +1,7 @@
--- `main` is safe and ends: the buffers keep their lengths, and each turn has one read fewer left. Assumes nothing.
-use mathlib.Core.Path.{◌≡◌}
+-- `main` is safe and ends: what is kept of a line stands in its buffer. Assumes nothing.
 use Prim.Native.Nat.{◌≤◌}
 use lib.ListN.{length}
 use Rattle.inspect.proofs.main.Given as goal
 
-abbrev pub invariant-loop-reads : goal.invariant-loop-reads
-invariant-loop-reads l = (length l.bytes ≡ 1041) × (length l.piece ≡ 65536) × (length l.table ≡ 9999) × (length l.room ≡ 9999) × (length l.out ≡ 131072) × (l.at ≤ 1041)
-
-abbrev pub decreases-loop-reads : goal.decreases-loop-reads
-decreases-loop-reads l = l.reads
+abbrev pub invariant-loop : goal.invariant-loop
+invariant-loop l = l.at ≤ length l.bytes

@@ -1,13 +1,10 @@
 -- `step` meets its contract. Assumes nothing.
-use Rattle.inspect.proofs.Stepping.{kept_in, goes_on}
+use Rattle.inspect.proofs.Stepping.{goes_on}
 use native.Mathlib.Omega.{arith}
 use Rattle.inspect.proofs.step.Goals as goal
-
-pub slice_bounds-answer-end : goal.slice_bounds-answer-end
-slice_bounds-answer-end c = let a = c.args in let h = kept_in a.bytes.now a.at a.piece.now a.from _ _ c.feed-fed.ensures.takes_on (omega arith) in omega arith
 
 pub returns-then-fed : goal.returns-then-fed
 returns-then-fed c = let a = c.args in let g = goes_on a.bytes.now a.at a.piece.now a.from _ _ c.feed-fed.ensures.takes_on (omega arith) (omega arith) in record { kept = omega arith; on = g.0; inside = g.1; written = c.answer-written.ensures }
 
 pub returns : goal.returns
-returns c = let a = c.args in let h = kept_in a.bytes.now a.at a.piece.now a.from _ _ c.feed-fed.ensures.takes_on (omega arith) in let g = goes_on a.bytes.now a.at a.piece.now a.from _ _ c.feed-fed.ensures.takes_on (omega arith) (omega arith) in record { kept = omega arith; on = g.0; inside = g.1; written = omega arith }
+returns c = let a = c.args in let g = goes_on a.bytes.now a.at a.piece.now a.from _ _ c.feed-fed.ensures.takes_on (omega arith) (omega arith) in record { kept = omega arith; on = g.0; inside = g.1; written = omega arith }

@@ -1,9 +1,8 @@
 -- `last_taken` meets its contract. Assumes nothing.
-use Rattle.kept.proofs.Popping.{pop_none, pop_some}
+use mathlib.Core.Path.{◌∙◌}
+use native.Mathlib.Omega.{arith}
+use Rattle.kept.proofs.Popping.{last_popped}
 use Rattle.kept.proofs.last_taken.Goals as goal
 
-pub returns-then-taken-eq0 : goal.returns-then-taken-eq0
-returns-then-taken-eq0 c = pop_none 9 _ _ c.if-taken-eq0.true
-
 pub returns : goal.returns
-returns c = pop_some 9 _ _ c.if-taken-eq0.false
+returns c = rw c.as_popped.ensures (last_popped 9 _ _ _ _ (omega arith) (c.copied.ensures ∙ c.first.ensures.value))

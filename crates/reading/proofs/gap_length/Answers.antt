@@ -8,16 +8,16 @@ use Rattle.reading.proofs.Tests.{stop_inside}
 use Rattle.reading.proofs.gap_length.Goals as goal
 
 pub loop-len-init : goal.loop-len-init
-loop-len-init c = (omega arith, λ M h k s. omega arith)
+loop-len-init c = λ M h k s. omega arith
 
 pub stops-requires : goal.stops-requires
 stops-requires c = record { sizes = omega arith; known = c.requires.known }
 
 pub returns-then-stops : goal.returns-then-stops
-returns-then-stops c = record { some = omega arith; is = told_yes c.stops.result _ c.stops.ensures c.if-stops.true; first = λ M h k. c.loop-len.invariant.1 M k h }
+returns-then-stops c = record { some = omega arith; is = told_yes c.stops.result _ c.stops.ensures c.if-stops.true; first = λ M h k. c.loop-len.invariant M k h }
 
 pub loop-len-preserved : goal.loop-len-preserved
-loop-len-preserved c = (omega arith, below_more (λ M. 1 ≤ M → Stops _ _ _ _ M → ⊥) _ c.loop-len.invariant.1 (λ h. told_no c.stops.result _ c.stops.ensures c.if-stops.false))
+loop-len-preserved c = below_more (λ M. 1 ≤ M → Stops _ _ _ _ M → ⊥) _ c.loop-len.invariant (λ h. told_no c.stops.result _ c.stops.ensures c.if-stops.false)
 
-pub returns : goal.returns
-returns c = let w = c.requires.stopped in let k = stop_inside w.2 in absurd (c.loop-len.invariant.1 w.0 (omega arith) w.1 w.2)
+pub unreachable-requires : goal.unreachable-requires
+unreachable-requires c = let w = c.requires.stopped in let k = stop_inside w.2 in c.loop-len.invariant w.0 (omega arith) w.1 w.2

@@ -1,22 +1,20 @@
--- `longest_piece` meets its contract: no piece longer than len reaches the total. Assumes nothing.
-use mathlib.Core.Path.{refl}
-use mathlib.Core.Logic.{inl, inr}
+-- `longest_piece` meets its contract: no piece of len letters or more reaches the total. Assumes nothing.
 use native.Mathlib.Omega.{arith}
 use Rattle.terms.proofs.Told.{told_yes, told_no}
 use Rattle.reading.proofs.Leading.{top_step}
 use Rattle.reading.proofs.longest_piece.Goals as goal
 
 pub loop-len-init : goal.loop-len-init
-loop-len-init c = (omega arith, λ M r. omega (arith, r.0.inside))
+loop-len-init c = λ M r. omega (arith, r.0.inside)
 
 pub reaches-requires : goal.reaches-requires
 reaches-requires c = record { sizes = omega arith; known = c.requires.known }
 
 pub returns-then-reaches : goal.returns-then-reaches
-returns-then-reaches c = record { is = inr (told_yes c.reaches.result _ c.reaches.ensures c.if-reaches.true); top = c.loop-len.invariant.1 }
+returns-then-reaches c = (told_yes c.reaches.result _ c.reaches.ensures c.if-reaches.true, λ M r. omega (arith, c.loop-len.invariant M r))
 
 pub loop-len-preserved : goal.loop-len-preserved
-loop-len-preserved c = (omega arith, top_step c.loop-len.invariant.1 (told_no c.reaches.result _ c.reaches.ensures c.if-reaches.false))
+loop-len-preserved c = top_step c.loop-len.invariant (told_no c.reaches.result _ c.reaches.ensures c.if-reaches.false)
 
 pub returns : goal.returns
-returns c = record { is = inl refl; top = λ M r. omega (arith, r.0.long, c.loop-len.invariant.1 M r) }
+returns c = λ M r. omega (arith, r.0.long, c.loop-len.invariant M r)

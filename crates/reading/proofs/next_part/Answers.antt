@@ -1,36 +1,38 @@
 -- `next_part` meets its contract. Assumes nothing.
+use Prim.Native.Nat.{ℕ, ◌-◌, ◌≤◌}
 use native.Mathlib.Omega.{arith}
+use Rattle.ways.specs.Spans.{board_of}
 use Rattle.table.proofs.Index.{known_lt}
-use Rattle.reading.proofs.Tests.{least_small, read_least, stop_inside}
-use Rattle.reading.proofs.Leading.{top_small, lead_piece, gap_first, lead_gap}
+use Rattle.reading.proofs.Tests.{least_small, read_least}
+use Rattle.reading.proofs.Leading.{reach_small, lead_piece, gap_first, lead_gap}
+use Rattle.reading.specs.Work.{Stops}
 use Rattle.reading.proofs.next_part.Goals as goal
+use Rattle.reading.proofs.next_part.Goals.{In-None}
+
+-- Where no piece reaches the total, a gap does: there is one left.
+blank_first : (c : In-None) → (M : ℕ) × (1 ≤ M) × (1 ≤ c.args.q) × Stops (board_of c.args.totals.spans) c.args.i (c.args.q - 1) c.at-v.result M
+blank_first c = let k = c.requires in gap_first (λ a M p. p.some) (read_least k.known.2 k.tiled c.at-v.ensures (omega arith) (omega arith)) c.in-None.ensures (omega arith)
 
 pub at-v-requires : goal.at-v-requires
-at-v-requires c = (omega arith, omega arith, omega arith, known_lt c.requires.known _ _ (omega arith) (omega arith))
+at-v-requires c = (omega arith, omega arith, omega arith, known_lt c.requires.known.2 _ _ (omega arith) (omega arith))
 
-pub longest_piece-len-requires : goal.longest_piece-len-requires
-longest_piece-len-requires c = let k = c.requires in record { sizes = omega (arith, least_small (read_least k.known k.tiled c.at-v.ensures (omega arith) (omega arith))); known = k.known }
+pub longest_piece-requires : goal.longest_piece-requires
+longest_piece-requires c = let k = c.requires in record { sizes = omega (arith, least_small (read_least k.known.2 k.tiled c.at-v.ensures (omega arith) (omega arith))); known = k.known }
 
 pub overflow_mul-result : goal.overflow_mul-result
-overflow_mul-result c = omega (arith, top_small c.longest_piece-len.ensures (omega arith))
+overflow_mul-result c = omega (arith, reach_small _ _ c.in-Some.ensures.0)
 
-pub overflow_cast-result : goal.overflow_cast-result
-overflow_cast-result c = omega (arith, top_small c.longest_piece-len.ensures (omega arith))
+pub returns-in-Some : goal.returns-in-Some
+returns-in-Some c = let k = c.requires in lead_piece (λ a M p. p.some) (read_least k.known.2 k.tiled c.at-v.ensures (omega arith) (omega arith)) c.in-Some.ensures
 
-pub overflow_add-result : goal.overflow_add-result
-overflow_add-result c = omega (arith, top_small c.longest_piece-len.ensures (omega arith))
-
-pub returns-then-len-gt0 : goal.returns-then-len-gt0
-returns-then-len-gt0 c = let k = c.requires in lead_piece (λ a M p. p.some) (read_least k.known k.tiled c.at-v.ensures (omega arith) (omega arith)) c.longest_piece-len.ensures c.if-len-gt0.true
-
-pub returns-then-q-eq0 : goal.returns-then-q-eq0
-returns-then-q-eq0 c = let k = c.requires in absurd (omega (arith, (gap_first (λ a M p. p.some) (read_least k.known k.tiled c.at-v.ensures (omega arith) (omega arith)) c.longest_piece-len.ensures c.if-len-gt0.false (omega arith)).2))
+pub overflow_sub-q : goal.overflow_sub-q
+overflow_sub-q c = (blank_first c).2
 
 pub gap_length-blank-requires : goal.gap_length-blank-requires
-gap_length-blank-requires c = let k = c.requires in let w = gap_first (λ a M p. p.some) (read_least k.known k.tiled c.at-v.ensures (omega arith) (omega arith)) c.longest_piece-len.ensures c.if-len-gt0.false (omega arith) in record { sizes = omega arith; known = k.known; stopped = (w.0, w.1, w.3) }
+gap_length-blank-requires c = let w = blank_first (goal.at.gap_length-blank-requires c).In-None in record { sizes = omega arith; known = c.requires.known; stopped = (w.0, w.1, w.3) }
 
-pub overflow_cast-result-2 : goal.overflow_cast-result-2
-overflow_cast-result-2 c = omega (arith, stop_inside c.gap_length-blank.ensures.is)
+pub overflow_sub-result : goal.overflow_sub-result
+overflow_sub-result c = (blank_first (goal.at.overflow_sub-result c).In-None).2
 
-pub returns : goal.returns
-returns c = let k = c.requires in lead_gap (λ a M p. p.some) (read_least k.known k.tiled c.at-v.ensures (omega arith) (omega arith)) c.longest_piece-len.ensures c.if-len-gt0.false (omega arith) c.gap_length-blank.ensures
+pub returns-in-None : goal.returns-in-None
+returns-in-None c = let k = c.requires in let w = blank_first (goal.at.returns-in-None c).In-None in lead_gap (λ a M p. p.some) (read_least k.known.2 k.tiled c.at-v.ensures (omega arith) (omega arith)) c.in-None.ensures (omega (arith, w.2)) c.gap_length-blank.ensures

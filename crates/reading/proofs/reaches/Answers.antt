@@ -11,7 +11,7 @@ unfolding Tells
 returns-then-not-is_piece c = λ r. told_no c.is_piece.result _ c.is_piece.ensures (c.if-not-is_piece.true) r.0
 
 pub at-requires : goal.at-requires
-at-requires c = (omega arith, omega arith, omega arith, known_lt c.requires.known _ _ (omega arith) (omega arith))
+at-requires c = (omega arith, omega arith, omega arith, known_lt c.requires.known.2 _ _ (omega arith) (omega arith))
 
 pub returns : goal.returns
-returns c = reaches_tells _ _ _ _ _ (told_yes c.is_piece.result _ c.is_piece.ensures (c.if-not-is_piece.false)) (known_entry c.requires.known c.at.ensures (omega arith) (omega arith)) (omega arith)
+returns c = reaches_tells _ _ _ _ _ (told_yes c.is_piece.result _ c.is_piece.ensures (c.if-not-is_piece.false)) (known_entry c.requires.known.2 c.at.ensures (omega arith) (omega arith)) (omega arith)

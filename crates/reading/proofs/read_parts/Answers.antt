@@ -1,22 +1,18 @@
 -- `read_parts` meets its contract: the first k numbers lead to i. Assumes nothing.
 use mathlib.Core.Path.{refl, ◌∙◌}
 use native.Mathlib.Omega.{arith}
-use lib.ListN.{length-set}
 use lib.Seq.{get_or-set_other}
 use Rattle.reading.proofs.Walked.{walked_start, walked_next, walked_end}
 use Rattle.reading.proofs.read_parts.Goals as goal
 
 pub loop-i-init : goal.loop-i-init
-loop-i-init c = (refl, walked_start _ _ _ c.requires.tiled, λ j h. refl)
+loop-i-init c = (walked_start _ _ _ c.requires.tiled, λ j h. refl)
 
 pub next_part-next-requires : goal.next_part-next-requires
-next_part-next-requires c = record { sizes = omega arith; known = c.requires.known; tiled = c.loop-i.invariant.1.more }
+next_part-next-requires c = record { sizes = omega arith; known = c.requires.known; tiled = c.loop-i.invariant.0.more }
 
 pub loop-i-preserved : goal.loop-i-preserved
-loop-i-preserved c = (simp length-set c.loop-i.invariant.0, walked_next c.loop-i.invariant.1 (omega arith) c.next_part-next.ensures, λ j h. get_or-set_other c.loop-i.codes c.loop-i.k j c.next_part-next.result.code 0 (omega arith) ∙ c.loop-i.invariant.2 j (omega arith))
-
-pub shape_of-codes : goal.shape_of-codes
-shape_of-codes c = c.loop-i.invariant.0
+loop-i-preserved c = (walked_next c.loop-i.invariant.0 (omega arith) c.next_part-next.ensures, λ j h. get_or-set_other c.loop-i.codes c.loop-i.k j c.next_part-next.result.code 0 (omega arith) ∙ c.loop-i.invariant.1 j (omega arith))
 
 pub returns : goal.returns
-returns c = (walked_end c.loop-i.invariant.1 (λ a L p. p.some) c.loop-i-test.false, c.loop-i.invariant.2)
+returns c = (walked_end c.loop-i.invariant.0 (λ a L p. p.some) c.loop-i-test.false, c.loop-i.invariant.1)

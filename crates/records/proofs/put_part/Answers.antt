@@ -8,6 +8,9 @@ use Rattle.records.proofs.put_part.Goals as goal
 pub count_errors-e-requires : goal.count_errors-e-requires
 count_errors-e-requires c = let k = fit_piece _ _ _ c.requires.fit c.if-c-eq0.true in omega arith
 
+pub overflow_cast-e : goal.overflow_cast-e
+overflow_cast-e c = let k = fit_piece _ _ _ c.requires.fit c.if-c-eq0.true in let e = c.count_errors-e.ensures in omega arith
+
 pub put_record-requires : goal.put_record-requires
 put_record-requires c = let k = fit_piece _ _ _ c.requires.fit c.if-c-eq0.true in omega arith
 

@@ -1,12 +1,9 @@
--- `all_right` meets its contract: the records before a place are right. Assumes nothing.
-use Prim.Native.Nat.{◌-◌}
-use lib.ListN.{length}
-use Rattle.terms.specs.Texts.{text}
-use Rattle.returned.proofs.Judging.{Judging}
+-- `all_right` meets its contract: the records before the k-th are right. Assumes nothing.
+use Prim.Native.Nat.{ℕ, ◌*◌, ◌<◌}
+use Rattle.texts.specs.Lent.{text_of}
+use Rattle.reader.specs.Reader.{record_bytes}
+use Rattle.judged.specs.Judged.{Right}
 use Rattle.returned.proofs.all_right.Given as goal
 
-abbrev pub invariant-loop-at : goal.invariant-loop-at
-invariant-loop-at l = Judging (text l.s l.map l.alphabet) l.limits l.file l.at
-
-abbrev pub decreases-loop-at : goal.decreases-loop-at
-decreases-loop-at l = length l.file - l.at
+abbrev pub invariant-loop-k : goal.invariant-loop-k
+invariant-loop-k l = (j : ℕ) → j < l.k → Right (text_of l.text) l.judge.limits (record_bytes l.file (6 * j))

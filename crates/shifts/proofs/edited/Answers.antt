@@ -13,12 +13,3 @@ put_in-requires c = fits_in _ _ _ (ap (fits _) (sym c.in-PutIn.is) ∙ c.require
 
 pub take_out-requires : goal.take_out-requires
 take_out-requires c = (fits_out _ _ (ap (fits _) (sym c.in-TakeOut.is) ∙ c.requires.1), c.requires.0)
-
-pub returns-in-Letter : goal.returns-in-Letter
-returns-in-Letter c = rw c.in-Letter.is
-
-pub returns-in-PutIn : goal.returns-in-PutIn
-returns-in-PutIn c = rw c.in-PutIn.is c.put_in.ensures
-
-pub returns-in-TakeOut : goal.returns-in-TakeOut
-returns-in-TakeOut c = rw c.in-TakeOut.is c.take_out.ensures

@@ -1,5 +1,5 @@
 -- `fill_longest` meets its contract: the entries from a on hold their starts' longest lengths, and the word is that of the letters from a on. Assumes nothing.
-use Prim.Native.Nat.{◌-◌, ◌≤◌}
+use Prim.Native.Nat.{◌-◌}
 use lib.ListN.{length}
 use Rattle.terms.proofs.Ranges.{Filled}
 use Rattle.shuffled.specs.Shuffled.{LongestShuffled}
@@ -7,7 +7,4 @@ use Rattle.shuffled.specs.Work.{ParityWord}
 use Rattle.shuffled.proofs.fill_longest.Given as goal
 
 abbrev pub invariant-loop-a : goal.invariant-loop-a
-invariant-loop-a l = (l.a ≤ length l.s) × ParityWord l.s l.a (length l.s - l.a) l.w × Filled (LongestShuffled l.s) l.a (length l.s) l.initial.out l.out
-
-abbrev pub decreases-loop-a : goal.decreases-loop-a
-decreases-loop-a l = l.a
+invariant-loop-a l = ParityWord l.s l.a (length l.s - l.a) l.w × Filled (LongestShuffled l.s) l.a (length l.s) l.initial.out l.out

@@ -10,9 +10,6 @@ use Rattle.shuffled.proofs.longest_from.Goals as goal
 pub loop-len-init : goal.loop-len-init
 loop-len-init c = (omega arith, omega arith, c.requires.parity_word, λ L h. let i : c.args.a + L ≤ length c.args.s.now = h.inside in omega arith)
 
-pub at_most_one-requires : goal.at_most_one-requires
-at_most_one-requires c = tt
-
 pub turned-rest-requires : goal.turned-rest-requires
 turned-rest-requires c = capital_at _ c.requires.sizes.2 _ (omega arith)
 

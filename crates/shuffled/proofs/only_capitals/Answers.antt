@@ -1,23 +1,21 @@
--- `only_capitals` meets its contract: every byte passed is one of A to Z. Assumes nothing.
-use mathlib.Core.Path.{sym, ◌∙◌}
-use native.Mathlib.Omega.{arith}
-use Rattle.terms.proofs.Below.{below_zero, below_more, below_not, below_all}
-use Rattle.shuffled.specs.Shuffled.{capitals}
+-- `only_capitals` meets its contract: all bytes pass the library's test, which is that of A to Z. Assumes nothing.
+use Rattle.std.proofs.Common.{rules, ◌≡◌, refl, sym, ◌↔◌, ℕ, List, Bool, true, false, length, get_or, IsTrue, EachIndex}
+use Rattle.std.specs.Char.{is_ascii_uppercase}
+use Rattle.terms.specs.Maps.{every_below}
+use Rattle.terms.proofs.Below.{below_each, below_at}
+use Rattle.terms.proofs.Refusals.{false_true}
+use Rattle.shuffled.specs.Shuffled.{capital, capitals}
 use Rattle.shuffled.proofs.only_capitals.Goals as goal
 
-pub loop-k-init : goal.loop-k-init
-loop-k-init c = (omega arith, below_zero _)
-
-pub is_capital-requires : goal.is_capital-requires
-is_capital-requires c = tt
-
-pub returns-then-not-is_capital : goal.returns-then-not-is_capital
-unfolding capitals
-returns-then-not-is_capital c = sym (below_not _ _ c.loop-k.k (omega arith) (sym c.is_capital.ensures ∙ c.if-not-is_capital.true))
-
-pub loop-k-preserved : goal.loop-k-preserved
-loop-k-preserved c = (omega arith, below_more _ _ c.loop-k.invariant.1 (sym c.is_capital.ensures ∙ c.if-not-is_capital.false))
+-- what passes where every byte does says whether the string is of A to Z
+told : (b : Bool) (s : List ℕ) → (IsTrue b ↔ EachIndex s (λ k. is_ascii_uppercase (get_or s k 0) ≡ true)) → b ≡ capitals s
+unfolding capitals capital
+told true s h = sym (below_each _ (length s) (h.0 refl))
+told false s h = go (every_below (length s) (λ k. capital (get_or s k 0))) refl
+  where
+    go : (t : Bool) → every_below (length s) (λ k. capital (get_or s k 0)) ≡ t → false ≡ every_below (length s) (λ k. capital (get_or s k 0))
+    go true e = absurd (false_true (sym (h.1 (λ i l. below_at _ (length s) i e l))))
+    go false e = sym e
 
 pub returns : goal.returns
-unfolding capitals
-returns c = sym (below_all _ _ _ c.loop-k.invariant.1 (omega arith))
+returns c = told _ _ (let h : IsTrue c.all.result ↔ EachIndex c.args.s.now (λ k. is_ascii_uppercase (get_or c.args.s.now k 0) ≡ true) = search rules in h)

@@ -1,17 +1,21 @@
 -- `figures` meets its contract, case by case. Assumes nothing.
-use mathlib.Core.Path.{refl, sym}
-use Rattle.spans.specs.declared.outward.Stop.TheVariants.{Pair, End, Barred}
-use Rattle.stops.proofs.Refusing.{refused_values, answered_values}
+use mathlib.Core.Path.{refl}
+use Rattle.stops.specs.Centre.{reply_values}
 use Rattle.stops.proofs.figures.Goals as goal
+use Rattle.stops.proofs.figures.Goals.{in-Pair, in-End, in-Barred}
 
-pub returns-then-number-ne0 : goal.returns-then-number-ne0
-returns-then-number-ne0 c = (refl, sym (refused_values _ c.if-number-ne0.true))
+pub returns-after-stop : goal.returns-after-stop
+unfolding reply_values
+returns-after-stop c =
+    rw c.in-Ok.is (
+      refl,
+      elim c.match-stop.branch [
+        | in-Pair w ↦ rw (c.from.ensures, w.case-is, w.in-Pair.is) refl
+        | in-End w ↦ rw (c.from.ensures, w.case-is, w.in-End.is) refl
+        | in-Barred w ↦ rw (c.from.ensures, w.case-is, w.in-Barred.is) refl
+      ],
+    )
 
-pub returns-in-Pair : goal.returns-in-Pair
-returns-in-Pair c = let z = c.if-number-ne0.false in (sym z, answered_values _ (Pair _ _) z c.in-Pair.is)
-
-pub returns-in-End : goal.returns-in-End
-returns-in-End c = let z = c.if-number-ne0.false in (sym z, answered_values _ End z c.in-End.is)
-
-pub returns-in-Barred : goal.returns-in-Barred
-returns-in-Barred c = let z = c.if-number-ne0.false in (sym z, answered_values _ Barred z c.in-Barred.is)
+pub returns-in-Err : goal.returns-in-Err
+unfolding reply_values
+returns-in-Err c = rw c.in-Err.is (c.number.ensures, refl)

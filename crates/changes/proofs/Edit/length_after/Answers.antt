@@ -10,9 +10,3 @@ overflow_add-result c = omega (arith, (fits_in _ _ _ (ap (fits _) (sym c.in-PutI
 
 pub overflow_sub-result : goal.overflow_sub-result
 overflow_sub-result c = omega (arith, fits_out _ _ (ap (fits _) (sym c.in-TakeOut.is) ∙ c.requires))
-
-pub returns-in-PutIn : goal.returns-in-PutIn
-returns-in-PutIn c = rw c.in-PutIn.is
-
-pub returns-in-TakeOut : goal.returns-in-TakeOut
-returns-in-TakeOut c = rw c.in-TakeOut.is

@@ -1,18 +1,10 @@
--- `paired` meets its contract: the entries below x are set. Assumes nothing.
-use mathlib.Core.Path.{refl}
-use Rattle.terms.proofs.Ranges.{fill_none, fill_up}
-use Rattle.terms.proofs.Supplied.{rule_filled}
-use Rattle.inspect.specs.Lending.{paired_map}
+-- `paired` meets its contract: each place of the map holds what the rule gives. Assumes nothing.
 use Prim.Native.Nat.{◌+◌, ◌-◌, ◌*◌, ◌%◌}
 use native.Mathlib.Omega.{arith}
+use Rattle.terms.proofs.Supplied.{rule_only}
+use Rattle.inspect.specs.Lending.{paired_map}
 use Rattle.inspect.proofs.maps.paired.Goals as goal
-
-pub loop-x-init : goal.loop-x-init
-loop-x-init c = (omega arith, fill_none _ 0 _)
-
-pub loop-x-preserved : goal.loop-x-preserved
-loop-x-preserved c = (omega arith, fill_up _ 0 _ _ _ c.loop-x.invariant.1 _ (omega arith) (omega arith) refl)
 
 pub returns : goal.returns
 unfolding paired_map
-returns c = rule_filled (λ k. k + 1 - 2 * (k % 2)) _ _ (omega arith) (omega arith) c.loop-x.invariant.1
+returns c = rule_only (λ x. x + 1 - 2 * (x % 2)) _ c.from_fn.ensures.items.long (λ x h. let k = (c.from_fn.ensures.items.at x 0 h).2 in omega arith)

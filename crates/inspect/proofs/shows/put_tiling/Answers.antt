@@ -1,6 +1,11 @@
 -- `put_tiling` meets its contract. Assumes nothing.
+use Rattle.std.proofs.Common.{rules}
 use Rattle.printing.proofs.Laws.{and_then}
+use Rattle.inspect.proofs.Showing.{put_numbers}
 use Rattle.inspect.proofs.shows.put_tiling.Goals as goal
 
 pub returns : goal.returns
-returns c = and_then c.put_line-first.ensures (and_then c.put_entries-second.ensures c.put_room.ensures)
+returns c =
+    let p = put_numbers _ c.put_items-2.ensures in
+    rw (← c.values_of-numbers.ensures)
+    (and_then c.put_line.ensures.put (and_then (put_numbers _ c.put_items.ensures).put (search (rules, p))))

@@ -1,23 +1,26 @@
 -- `Sheet::open` meets its contract: the blank sheet with the refusal, or the sheet opened. Assumes nothing.
 use mathlib.Core.Path.{sym, ap, ◌∙◌}
+use native.Mathlib.Omega.{arith}
+use Rattle.std.specs.Prelude.{Err}
 use Rattle.terms.proofs.Passed.{sound_opening}
-use Rattle.terms.specs.Texts.{text}
+use Rattle.texts.specs.Lent.{text_of}
 use Rattle.sheet.proofs.Replying.{call_refused, open_reply}
-use Rattle.sheet.specs.Calls.{refusing}
 use Rattle.sheet.specs.declared.Sheet.{Sheet}
 use Rattle.sheet.proofs.Sheet.open.Goals as goal
 
-pub returns-then-number-ne0 : goal.returns-then-number-ne0
-returns-then-number-ne0 c = call_refused _ _ _ _ c.opening_refusal-number.ensures c.if-number-ne0.true _ (c.refused.ensures ∙ ap (λ (b : Sheet). refusing b c.opening_refusal-number.result) c.blank.ensures)
+pub returns-in-Err : goal.returns-in-Err
+returns-in-Err c = call_refused _ _ _ _ c.in-Err.ensures _ (c.refused.ensures ∙ ap (λ (b : Sheet). record { sheet = b; said = Err c.in-Err.refusal }) c.blank.ensures)
 
-pub letters_of-letters-requires : goal.letters_of-letters-requires
-letters_of-letters-requires c = let a = c.args in (sound_opening (text a.string.now a.map.now a.alphabet.now) a.limits (sym c.opening_refusal-number.ensures ∙ c.if-number-ne0.false)).0.short
+pub padded-letters-requires : goal.padded-letters-requires
+padded-letters-requires c = let k = (sound_opening (text_of c.args.text) c.args.limits (sym c.in_default.ensures)).0 in (omega arith, k.short)
 
-pub map_of-f-requires : goal.map_of-f-requires
-map_of-f-requires c = let a = c.args in (sound_opening (text a.string.now a.map.now a.alphabet.now) a.limits (sym c.opening_refusal-number.ensures ∙ c.if-number-ne0.false)).0.wide
+pub padded-f-requires : goal.padded-f-requires
+padded-f-requires c = let k = (sound_opening (text_of c.args.text) c.args.limits (sym c.in_default.ensures)).0.wide in (omega arith, omega arith)
 
-pub map_of-z-requires : goal.map_of-z-requires
-map_of-z-requires c = let a = c.args in (sound_opening (text a.string.now a.map.now a.alphabet.now) a.limits (sym c.opening_refusal-number.ensures ∙ c.if-number-ne0.false)).0.flagged
+pub padded-z-requires : goal.padded-z-requires
+padded-z-requires c = let k = (sound_opening (text_of c.args.text) c.args.limits (sym c.in_default.ensures)).0.flagged in (omega arith, omega arith)
 
 pub returns : goal.returns
-returns c = let a = c.args in open_reply (text a.string.now a.map.now a.alphabet.now) a.limits _ _ _ _ _ c.opening_refusal-number.ensures c.if-number-ne0.false c.letters_of-letters.ensures c.map_of-f.ensures c.map_of-z.ensures c.unchanged.ensures
+returns c =
+    let k = (sound_opening (text_of c.args.text) c.args.limits (sym c.in_default.ensures)).0 in
+    open_reply (text_of c.args.text) c.args.limits _ _ _ _ c.in_default.ensures c.padded-letters.ensures.padded (c.padded-f.ensures.full k.wide) (c.padded-z.ensures.full k.flagged) c.unchanged.ensures

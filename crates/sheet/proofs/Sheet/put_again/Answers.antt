@@ -2,29 +2,26 @@
 use Prim.Native.Nat.{◌+◌, ◌-◌}
 use Rattle.changes.specs.Work.{fits}
 use Rattle.changes.specs.declared.Edit.{Edit}
-use Rattle.kept.proofs.Popping.{popped_is}
 use Rattle.kept.specs.Work.{popped_number}
 use Rattle.sheet.proofs.Replying.{call_refused, call_accepted, applied_accepted, last_fits, again_24, again_number, again_is}
 use Rattle.sheet.proofs.Within.{bounds}
-use Rattle.sheet.specs.Calls.{applied, last_taken}
+use Rattle.terms.specs.declared.refusal.Refusal.TheVariants.{OutOfBounds, NoneTakenBack}
+use Rattle.sheet.specs.Calls.{applied}
 use mathlib.Core.Path.{sym, ap, ◌∙◌}
 use native.Mathlib.Omega.{arith}
 use Rattle.sheet.proofs.Sheet.put_again.Goals as goal
 
 pub returns-then-not-in_bounds : goal.returns-then-not-in_bounds
-returns-then-not-in_bounds c = call_refused _ _ _ 24 (again_24 _ (sym c.in_bounds.ensures ∙ c.if-not-in_bounds.true)) (λ e. omega arith) _ c.refused.ensures
+returns-then-not-in_bounds c = call_refused _ _ _ OutOfBounds (again_24 _ (sym c.in_bounds.ensures ∙ c.if-not-in_bounds.true)) _ c.refused.ensures
 
 pub last_taken-requires : goal.last_taken-requires
 last_taken-requires c = (bounds _ (sym c.in_bounds.ensures ∙ c.if-not-in_bounds.false)).few
 
 pub returns-in_default : goal.returns-in_default
-returns-in_default c = call_refused _ _ _ 9 (again_number _ (sym c.in_bounds.ensures ∙ c.if-not-in_bounds.false) 9 (ap (popped_number 9) (sym c.in_default.is) ∙ c.last_taken.ensures.1)) (λ e. omega arith) _ c.refused-in_default.ensures
+returns-in_default c = call_refused _ _ _ NoneTakenBack (again_number _ (sym c.in_bounds.ensures ∙ c.if-not-in_bounds.false) 9 (ap (popped_number 9) (sym c.in_default.is) ∙ c.last_taken.ensures.1)) _ c.refused-in_default.ensures
 
 pub overflow_add-self : goal.overflow_add-self
 overflow_add-self c = omega (arith, (bounds _ (sym c.in_bounds.ensures ∙ c.if-not-in_bounds.false)).few)
-
-pub overflow_sub-self : goal.overflow_sub-self
-overflow_sub-self c = let s = c.args.self in let z = (popped_is s.taken (last_taken s) _ (sym c.last_taken.ensures.0 ∙ c.in-Change.is)).1 in omega arith
 
 pub apply-requires : goal.apply-requires
 apply-requires c = let w = sym c.in_bounds.ensures ∙ c.if-not-in_bounds.false in ((bounds _ w).letters, ap (fits _) c.done.ensures ∙ last_fits _ _ w (sym c.last_taken.ensures.0 ∙ c.in-Change.is))

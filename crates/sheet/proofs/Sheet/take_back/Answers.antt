@@ -2,26 +2,23 @@
 use Prim.Native.Nat.{◌+◌, ◌-◌}
 use Rattle.changes.specs.Work.{fits}
 use Rattle.changes.specs.declared.Edit.{Edit}
-use Rattle.kept.proofs.Popping.{popped_is}
 use Rattle.kept.specs.Work.{popped_number}
 use Rattle.sheet.proofs.Replying.{call_refused, call_accepted, applied_accepted, newest_fits, back_24, back_number, back_is}
 use Rattle.sheet.proofs.Within.{bounds}
-use Rattle.sheet.specs.Calls.{applied, newest_of}
+use Rattle.terms.specs.declared.refusal.Refusal.TheVariants.{OutOfBounds, NoneStands}
+use Rattle.sheet.specs.Calls.{applied}
 use mathlib.Core.Path.{sym, ap, ◌∙◌}
 use native.Mathlib.Omega.{arith}
 use Rattle.sheet.proofs.Sheet.take_back.Goals as goal
 
 pub returns-then-not-in_bounds : goal.returns-then-not-in_bounds
-returns-then-not-in_bounds c = call_refused _ _ _ 24 (back_24 _ (sym c.in_bounds.ensures ∙ c.if-not-in_bounds.true)) (λ e. omega arith) _ c.refused.ensures
+returns-then-not-in_bounds c = call_refused _ _ _ OutOfBounds (back_24 _ (sym c.in_bounds.ensures ∙ c.if-not-in_bounds.true)) _ c.refused.ensures
 
 pub newest-requires : goal.newest-requires
 newest-requires c = omega (arith, (bounds _ (sym c.in_bounds.ensures ∙ c.if-not-in_bounds.false)).few)
 
 pub returns-in_default : goal.returns-in_default
-returns-in_default c = call_refused _ _ _ 8 (back_number _ (sym c.in_bounds.ensures ∙ c.if-not-in_bounds.false) 8 (ap (popped_number 8) (sym c.in_default.is) ∙ c.newest.ensures.1)) (λ e. omega arith) _ c.refused-in_default.ensures
-
-pub overflow_sub-self : goal.overflow_sub-self
-overflow_sub-self c = let s = c.args.self in let z = (popped_is s.standing (newest_of s) _ (sym c.newest.ensures.0 ∙ c.in-Change.is)).1 in omega arith
+returns-in_default c = call_refused _ _ _ NoneStands (back_number _ (sym c.in_bounds.ensures ∙ c.if-not-in_bounds.false) 8 (ap (popped_number 8) (sym c.in_default.is) ∙ c.newest.ensures.1)) _ c.refused-in_default.ensures
 
 pub overflow_add-self : goal.overflow_add-self
 overflow_add-self c = omega (arith, (bounds _ (sym c.in_bounds.ensures ∙ c.if-not-in_bounds.false)).few)

@@ -1,21 +1,19 @@
 -- `differ` meets its contract. Assumes nothing.
-use borrow.Author.Tests.{eq-eqb, ne_eqb}
-use mathlib.Core.Path.{ap, sym}
-use mathlib.Core.Bool.{Bool, not}
-use native.Mathlib.Omega.{arith}
+use mathlib.Core.Bool.{Bool, true, false, not}
+use mathlib.Core.Path.{◌≡◌, refl, ap, ◌∙◌}
+use Rattle.std.specs.Int.{from_bool}
+use Prim.Native.Nat.{ℕ}
+use lib.ListN.{get_or}
+use lib.Dec.{eqb}
 use Rattle.spans.specs.Palindromes.{one}
 use Rattle.spans.proofs.pairs.differ.Goals as goal
 
-pub overflow_cast-b : goal.overflow_cast-b
-overflow_cast-b c = omega (arith, c.type_inv.s c.args.j)
-
-pub bounds-map-b : goal.bounds-map-b
-bounds-map-b c = omega (arith, c.type_inv.s c.args.j)
-
-pub returns-then-s-i : goal.returns-then-s-i
+as_one : (b : Bool) → from_bool b ≡ one b
 unfolding one
-returns-then-s-i c = sym (ap (λ (t : Bool). one (not t)) (eq-eqb _ _ c.if-s-i.true))
+as_one true = refl
+as_one false = refl
 
-pub returns-else-s-i : goal.returns-else-s-i
-unfolding one
-returns-else-s-i c = sym (ap (λ (t : Bool). one (not t)) (ne_eqb _ _ c.if-s-i.false))
+pub returns : goal.returns
+returns c =
+    let a = c.args in
+    c.from-2.ensures ∙ as_one _ ∙ ap (λ (b : ℕ). one (not (eqb (get_or a.s.now a.i 0) (get_or a.map.now b 0)))) c.from.ensures

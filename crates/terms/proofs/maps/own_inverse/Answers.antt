@@ -8,7 +8,7 @@ use Rattle.terms.proofs.Below.{below_zero, below_more, below_not, below_all}
 use Rattle.terms.proofs.maps.own_inverse.Goals as goal
 
 pub loop-x-init : goal.loop-x-init
-loop-x-init c = (omega arith, below_zero _)
+loop-x-init c = below_zero _
 
 pub overflow_cast-y : goal.overflow_cast-y
 overflow_cast-y c = omega (arith, c.type_inv.map c.loop-x.x)
@@ -24,8 +24,8 @@ unfolding own_inverse
 returns-then-z-x c = sym (below_not _ 256 c.loop-x.x (omega arith) (ne_eqb _ _ c.if-z-x.true))
 
 pub loop-x-preserved : goal.loop-x-preserved
-loop-x-preserved c = (omega arith, below_more _ _ c.loop-x.invariant.1 (eq-eqb _ _ c.if-z-x.false))
+loop-x-preserved c = below_more _ _ c.loop-x.invariant (eq-eqb _ _ c.if-z-x.false)
 
 pub returns : goal.returns
 unfolding own_inverse
-returns c = sym (below_all _ _ 256 c.loop-x.invariant.1 (omega arith))
+returns c = sym (below_all _ _ 256 c.loop-x.invariant (omega arith))

@@ -1,17 +1,9 @@
--- `plain` meets its contract: the entries below x hold their own place. Assumes nothing.
-use mathlib.Core.Path.{refl}
+-- `plain` meets its contract: each place of the map holds what the rule gives. Assumes nothing.
 use native.Mathlib.Omega.{arith}
 use Rattle.terms.specs.Maps.{plain_map}
-use Rattle.terms.proofs.Ranges.{fill_none, fill_up}
-use Rattle.terms.proofs.Supplied.{rule_filled}
+use Rattle.terms.proofs.Supplied.{rule_only}
 use Rattle.terms.proofs.maps.plain.Goals as goal
-
-pub loop-x-init : goal.loop-x-init
-loop-x-init c = (omega arith, fill_none _ 0 _)
-
-pub loop-x-preserved : goal.loop-x-preserved
-loop-x-preserved c = (omega arith, fill_up _ 0 _ _ _ c.loop-x.invariant.1 _ (omega arith) (omega arith) refl)
 
 pub returns : goal.returns
 unfolding plain_map
-returns c = rule_filled (λ x. x) _ _ (omega arith) (omega arith) c.loop-x.invariant.1
+returns c = rule_only (λ x. x) _ c.from_fn.ensures.items.long (λ x h. let k = (c.from_fn.ensures.items.at x 0 h).2 in omega arith)

@@ -5,19 +5,16 @@ use Rattle.terms.specs.Alphabets.{spelt}
 use Rattle.terms.proofs.Below.{below_zero, below_more, below_not, below_all}
 use Rattle.texts.proofs.flags.all_in.Goals as goal
 
-pub loop-k-init : goal.loop-k-init
-loop-k-init c = (omega arith, below_zero _)
-
-pub is_in-requires : goal.is_in-requires
-is_in-requires c = tt
+pub loop-letter-init : goal.loop-letter-init
+loop-letter-init c = below_zero _
 
 pub returns-then-not-is_in : goal.returns-then-not-is_in
 unfolding spelt
-returns-then-not-is_in c = sym (below_not _ _ c.loop-k.k (omega arith) (sym c.is_in.ensures ∙ c.if-not-is_in.true))
+returns-then-not-is_in c = sym (below_not _ _ c.loop-letter.letter-index (omega arith) (sym c.is_in.ensures ∙ c.if-not-is_in.true))
 
-pub loop-k-preserved : goal.loop-k-preserved
-loop-k-preserved c = (omega arith, below_more _ _ c.loop-k.invariant.1 (sym c.is_in.ensures ∙ c.if-not-is_in.false))
+pub loop-letter-preserved : goal.loop-letter-preserved
+loop-letter-preserved c = below_more _ _ c.loop-letter.invariant (sym c.is_in.ensures ∙ c.if-not-is_in.false)
 
 pub returns : goal.returns
 unfolding spelt
-returns c = sym (below_all _ _ _ c.loop-k.invariant.1 (omega arith))
+returns c = sym (below_all _ _ _ c.loop-letter.invariant (omega arith))

@@ -1,14 +1,10 @@
 -- `all_in` meets its contract: every letter passed is of the alphabet. Assumes nothing.
 use mathlib.Core.Path.{◌≡◌}
 use mathlib.Core.Bool.{true}
-use Prim.Native.Nat.{◌≤◌, ◌-◌}
-use lib.ListN.{length, get_or}
+use lib.ListN.{get_or}
 use Rattle.terms.specs.Maps.{every_below}
 use Rattle.terms.specs.Alphabets.{is_in}
 use Rattle.texts.proofs.flags.all_in.Given as goal
 
-abbrev pub invariant-loop-k : goal.invariant-loop-k
-invariant-loop-k l = (l.k ≤ length l.s) × (every_below l.k (λ i. is_in l.alphabet (get_or l.s i 0)) ≡ true)
-
-abbrev pub decreases-loop-k : goal.decreases-loop-k
-decreases-loop-k l = length l.s - l.k
+abbrev pub invariant-loop-letter : goal.invariant-loop-letter
+invariant-loop-letter l = every_below l.letter-index (λ i. is_in l.alphabet (get_or l.s i 0)) ≡ true

@@ -1,14 +1,10 @@
 -- `closed` meets its contract: the partners of all letters passed are letters. Assumes nothing.
 use mathlib.Core.Path.{◌≡◌}
 use mathlib.Core.Bool.{true, not, ◌||◌}
-use Prim.Native.Nat.{◌≤◌, ◌-◌}
 use lib.ListN.{get_or}
 use Rattle.terms.specs.Maps.{every_below}
 use Rattle.terms.specs.Alphabets.{is_in}
 use Rattle.texts.proofs.flags.closed.Given as goal
 
 abbrev pub invariant-loop-x : goal.invariant-loop-x
-invariant-loop-x l = (l.x ≤ 256) × (every_below l.x (λ b. not (is_in l.alphabet b) || is_in l.alphabet (get_or l.map b 0)) ≡ true)
-
-abbrev pub decreases-loop-x : goal.decreases-loop-x
-decreases-loop-x l = 256 - l.x
+invariant-loop-x l = every_below l.x (λ b. not (is_in l.alphabet b) || is_in l.alphabet (get_or l.map b 0)) ≡ true

@@ -1,14 +1,10 @@
 -- `own_partner` meets its contract: no byte passed is an own-partner letter. Assumes nothing.
 use mathlib.Core.Path.{◌≡◌}
 use mathlib.Core.Bool.{false, ◌&&◌}
-use Prim.Native.Nat.{◌≤◌, ◌-◌}
 use lib.Dec.{eqb}
 use lib.ListN.{get_or}
 use Rattle.terms.specs.Alphabets.{is_in, some_below}
 use Rattle.texts.proofs.flags.own_partner.Given as goal
 
 abbrev pub invariant-loop-x : goal.invariant-loop-x
-invariant-loop-x l = (l.x ≤ 256) × (some_below l.x (λ b. is_in l.alphabet b && eqb (get_or l.map b 0) b) ≡ false)
-
-abbrev pub decreases-loop-x : goal.decreases-loop-x
-decreases-loop-x l = 256 - l.x
+invariant-loop-x l = some_below l.x (λ b. is_in l.alphabet b && eqb (get_or l.map b 0) b) ≡ false

@@ -1,6 +1,0 @@
--- `opening_refusal` meets its contract: the first n letters are lent. Assumes nothing.
-use native.Mathlib.Nat.{sub-zero}
-use Rattle.places.proofs.opening_refusal.Goals as goal
-
-pub returns : goal.returns
-returns c = rw sub-zero at c.opening_refusal.ensures
