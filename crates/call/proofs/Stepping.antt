@@ -48,23 +48,23 @@ whole_line d room at line long k {table} {table'} {work} {work'} {out} {out'} {r
 
 module _ (bytes bytes' : List ℕ) (at : ℕ) (piece : List ℕ) (from : ℕ) (fed : Fed) (f : TakesOn bytes at piece from bytes' fed) where
   -- where the step leaves off
-  pub fed_bounds : at ≤ length bytes → from < length piece → (from < fed.from) × (fed.from ≤ length piece) × (fed.at ≤ length bytes')
+  pub fed_bounds : at ≤ length bytes → from < length piece → (from < fed.from) × (fed.from ≤ length piece)
   fed_bounds h l = go (ends (drop from piece)) refl
     where
       p : Feeds (take at bytes) piece from bytes' fed
       p = f (take at bytes) (kept_self bytes at h)
 
-      go : (t : Bool) → ends (drop from piece) ≡ t → (from < fed.from) × (fed.from ≤ length piece) × (fed.at ≤ length bytes')
+      go : (t : Bool) → ends (drop from piece) ≡ t → (from < fed.from) × (fed.from ≤ length piece)
       go true e =
           let n = rw e at p.next in
-          omega (arith, n, ltb-true (length (up_to_end (drop from piece))) (length (drop from piece)) e, length-drop from piece, p.kept.many)
+          omega (arith, n, ltb-true (length (up_to_end (drop from piece))) (length (drop from piece)) e, length-drop from piece)
       go false e =
           let n = rw e at p.next in
-          omega (arith, n, ltb-false (length (up_to_end (drop from piece))) (length (drop from piece)) e, within (drop from piece), length-drop from piece, p.kept.many)
+          omega (arith, n, ltb-false (length (up_to_end (drop from piece))) (length (drop from piece)) e, within (drop from piece), length-drop from piece)
 
   module _ (d : Desk) {table room out : List ℕ} where
     pub step_ended : length bytes' ≡ 1041 → fed.whole ≡ true → {table' room' out' : List ℕ} {turn : Turn} → DeskReply d (take fed.at bytes') table table' room room' out out' turn
-        → Stepping d bytes bytes' at piece from table table' room room' out out' (record { desk = turn.desk; at = 0; from = fed.from; written = turn.written })
+        → Stepping d bytes bytes' at 0 piece from table table' room room' out out' (record { desk = turn.desk; from = fed.from; written = turn.written })
     step_ended long w q line k =
         let p = f line k in
         record {
@@ -72,7 +72,7 @@ module _ (bytes bytes' : List ℕ) (at : ℕ) (piece : List ℕ) (from : ℕ) (f
           unended = λ e. absurd (subst T (sym w ∙ p.whole ∙ e) tt);
         }
 
-    pub step_unended : fed.whole ≡ false → from ≤ length piece → Stepping d bytes bytes' at piece from table table room room out out (record { desk = d; at = fed.at; from = fed.from; written = 0 })
+    pub step_unended : fed.whole ≡ false → from ≤ length piece → Stepping d bytes bytes' at fed.at piece from table table room room out out (record { desk = d; from = fed.from; written = 0 })
     step_unended w h line k =
         let p = f line k in
         let e : ends (drop from piece) ≡ false = sym p.whole ∙ w in
@@ -111,10 +111,10 @@ Onward s₀ bytes₀ at₀ piece bytes at from s = (line : List ℕ) → Kept by
 pub onward_start : (s : State) (bytes : List ℕ) (at : ℕ) (piece : List ℕ) → Onward s bytes at piece bytes at 0 s
 onward_start s bytes at piece line k = record { now = line; kept = k; last = refl; done = []; answers = refl; lines = refl }
 
-pub onward_next : (s₀ : State) (desk : Desk) (bytes₀ : List ℕ) (at₀ : ℕ) (piece bytes : List ℕ) (at from : ℕ) (bytes' table table' room room' out out' : List ℕ) (r : Progress)
-    → Onward s₀ bytes₀ at₀ piece bytes at from (state desk table room out) → Stepping desk bytes bytes' at piece from table table' room room' out out' r
-    → Onward s₀ bytes₀ at₀ piece bytes' r.at r.from (state r.desk table' room' out')
-onward_next s₀ desk bytes₀ at₀ piece bytes at from bytes' table table' room room' out out' r o s line k = go (ends (drop from piece)) refl
+pub onward_next : (s₀ : State) (desk : Desk) (bytes₀ : List ℕ) (at₀ : ℕ) (piece bytes : List ℕ) (at from : ℕ) (bytes' : List ℕ) (at' : ℕ) (table table' room room' out out' : List ℕ) (r : Progress)
+    → Onward s₀ bytes₀ at₀ piece bytes at from (state desk table room out) → Stepping desk bytes bytes' at at' piece from table table' room room' out out' r
+    → Onward s₀ bytes₀ at₀ piece bytes' at' r.from (state r.desk table' room' out')
+onward_next s₀ desk bytes₀ at₀ piece bytes at from bytes' at' table table' room room' out out' r o s line k = go (ends (drop from piece)) refl
   where
     before : State
     before = state desk table room out
@@ -128,7 +128,7 @@ onward_next s₀ desk bytes₀ at₀ piece bytes at from bytes' table table' roo
     this : List ℕ
     this = line_now was.now piece from
 
-    go : (t : Bool) → ends (drop from piece) ≡ t → Sofar s₀ piece bytes' r.at r.from after line
+    go : (t : Bool) → ends (drop from piece) ≡ t → Sofar s₀ piece bytes' at' r.from after line
     go true e =
         let q = (s was.now was.kept).ended e in
         record {

@@ -1,21 +1,17 @@
 -- What it takes to accept each kind of edit, and what lengths and limits come of it. Assumes nothing.
-use mathlib.Core.Path.{◌≡◌, refl, sym}
+use mathlib.Core.Path.{◌≡◌, refl}
 use mathlib.Core.Bool.{true, false, not}
 use mathlib.Core.List.{List, [], ◌∷◌}
 use Prim.Native.Nat.{ℕ, ◌≤◌, ◌<◌}
 use native.Mathlib.Omega.{arith}
-use borrow.Author.Tests.{leb-true, leb-false, ltb-true, ltb-false, le-leb, lt-leb, le-ltb, lt-ltb, eq-eqb, ne_eqb, eqb-true}
-use lib.Dec.{eqb, leb, ltb}
-use Rattle.std.specs.Prelude.{Result, Ok, Err}
-use Rattle.std.specs.Result.{is_ok}
-use Rattle.terms.specs.Refusals.{first_fault, fault_of}
-use Rattle.terms.specs.declared.refusal.Refusal.{Refusal}
+use borrow.Author.Tests.{leb-true, leb-false, ltb-true, ltb-false, le-leb, lt-leb, le-ltb, lt-ltb, eq-eqb, eqb-true}
+use lib.Dec.{leb, ltb}
+use Rattle.terms.specs.Refusals.{first_fault}
 use Rattle.terms.specs.Alphabets.{is_in}
 use Rattle.terms.specs.Limits.{limits_faults, with_kind, with_lengths}
 use Rattle.terms.specs.declared.limits.Limits.{Limits}
 use Rattle.terms.proofs.Below.{and_left, and_right, and_yes}
 use Rattle.terms.proofs.Passed.{passed, not_off}
-use Rattle.terms.proofs.Named.{not_zero}
 use Rattle.terms.proofs.Refusals.{Numbered, kind_numbered, lengths_numbered, limits_parts, limits_whole}
 use Rattle.changes.specs.Changes.{done_of, back_of, length_by, limits_by, place_fault, letter_fault, edit_faults, accepts, accepts_then}
 use Rattle.changes.specs.Work.{fits}
@@ -23,11 +19,6 @@ use Rattle.changes.specs.declared.Change.{Change}
 use Rattle.changes.specs.declared.Change.TheVariants.{Letter as ChangedLetter, Kind as DidKind, Lengths as DidLengths, PutIn as DidPutIn, TakeOut as DidTakeOut}
 use Rattle.changes.specs.declared.Edit.{Edit}
 use Rattle.changes.specs.declared.Edit.TheVariants.{Letter, Kind, Lengths, PutIn, TakeOut}
-
--- a check answers Ok where nothing is refused
-pub ok_unrefused : {A : Type 0} (r : Result A Refusal) → is_ok r ≡ eqb (fault_of r) 0
-ok_unrefused (Ok a) = refl
-ok_unrefused (Err e) = sym (ne_eqb _ _ (not_zero e))
 
 -- an edit is accepted where nothing of it is refused
 module _ (n : ℕ) (z : List ℕ) (e : Edit) where
@@ -40,10 +31,6 @@ module _ (n : ℕ) (z : List ℕ) (e : Edit) where
   none_accepts f = eq-eqb _ _ f
 
 -- every number of its list is a refusal's
-pub place_numbered : (n p : ℕ) → Numbered (place_fault n p)
-unfolding place_fault
-place_numbered n p = (omega arith, tt)
-
 pub edit_numbered : (n : ℕ) (z : List ℕ) (e : Edit) → Numbered (edit_faults n z e)
 unfolding edit_faults place_fault letter_fault
 edit_numbered n z (Letter p b) = (omega arith, (omega arith, tt))

@@ -51,7 +51,7 @@ pub enum Edit {
     TakeOut { place: usize },
 }
 
-// What refusal 6 says of a place where a letter must stand: it is one of n letters.
+// Refuses, with 6, a place that is none of n letters.
 #[tactic(auto, unfolding(crate::specs::Changes::place_fault, terms::specs::Refusals::first_fault))]
 fn check_place(place: usize, n: usize) -> Result<(), Refusal>
     ensures { fault_of result ≡ first_fault (place_fault n place) }
@@ -63,7 +63,7 @@ fn check_place(place: usize, n: usize) -> Result<(), Refusal>
     }
 }
 
-// What refusal 19 says of one letter: the byte is of the alphabet.
+// Refuses, with 19, a byte outside the alphabet.
 #[tactic(auto, unfolding(crate::specs::Changes::letter_fault, terms::specs::Refusals::first_fault))]
 fn check_letter(byte: u8, alphabet: &[u8]) -> Result<(), Refusal>
     ensures { fault_of result ≡ first_fault (letter_fault alphabet.now byte) }
@@ -77,7 +77,7 @@ fn check_letter(byte: u8, alphabet: &[u8]) -> Result<(), Refusal>
 
 impl Edit {
     // The first refusal that its call has of the edit, on n letters of the alphabet.
-    #[tactic(auto, unfolding(crate::specs::Changes::edit_faults, terms::specs::Refusals::first_fault))]
+    #[tactic(auto, using(terms::proofs::Named::not_zero, terms::proofs::Named::handed_on), unfolding(crate::specs::Changes::edit_faults, crate::specs::Changes::place_fault, crate::specs::Changes::letter_fault, terms::specs::Refusals::first_fault))]
     pub fn check(self, n: usize, alphabet: &[u8]) -> Result<(), Refusal>
         ensures { fault_of result ≡ first_fault (edit_faults n alphabet.now self) }
     {
@@ -102,6 +102,7 @@ impl Edit {
     }
 
     // Whether its call would accept the edit, on n letters of the alphabet.
+    #[tactic(auto, using(terms::proofs::Named::unrefused), unfolding(crate::specs::Changes::accepts))]
     pub fn accepted(self, n: usize, alphabet: &[u8]) -> bool
         ensures { result ≡ accepts n alphabet.now self }
     {
@@ -109,7 +110,7 @@ impl Edit {
     }
 
     // Whether the edit would be accepted on n letters of the alphabet, and then the other on those it leaves.
-    #[tactic(auto, unfolding(crate::specs::Changes::accepts_then))]
+    #[tactic(auto, using(crate::proofs::Accepting::accepts_fits), unfolding(crate::specs::Changes::accepts_then))]
     pub fn accepted_then(self, other: Edit, n: usize, alphabet: &[u8]) -> bool
         ensures { result ≡ accepts_then n alphabet.now self other }
     {
@@ -117,6 +118,7 @@ impl Edit {
     }
 
     // The number of letters after the edit, of n letters.
+    #[tactic(auto, using(crate::proofs::Accepting::fits_in, crate::proofs::Accepting::fits_out), unfolding(crate::specs::Work::fits))]
     pub fn length_after(self, n: usize) -> usize
         requires { fits n self ≡ true }
         ensures { result ≡ length_by self n }

@@ -3,11 +3,12 @@ use mathlib.Core.Path.{◌≡◌, refl, sym, ap, ap₂, ◌∙◌, subst}
 use mathlib.Core.Bool.{Bool, true, false}
 use mathlib.Core.List.{List, [], ◌∷◌, ◌++◌}
 use mathlib.Core.Logic.{inl, inr}
-use Prim.Native.Nat.{ℕ, ◌*◌, ◌<◌}
+use Prim.Native.Nat.{ℕ, ◌*◌, ◌/◌, ◌<◌}
 use native.Mathlib.Omega.{arith}
 use borrow.Author.Tests.{eq-eqb, ne_eqb}
 use lib.Dec.{ltb}
-use lib.ListN.{length, drop}
+use lib.ListN.{length, take, drop}
+use lib.Seq.{take-append_seam}
 use Rattle.std.specs.Prelude.{Ok, Err, Some}
 use Rattle.terms.specs.Refusals.{first_fault, refusal_number}
 use Rattle.terms.specs.Alphabets.{all_bytes}
@@ -18,6 +19,7 @@ use Rattle.terms.proofs.Named.{not_zero}
 use Rattle.tilings.specs.Tilings.{Part, Given, gaps, total}
 use Rattle.boards.specs.Pieces.{board}
 use Rattle.records.specs.Records.{record_size, records_from}
+use Rattle.records.proofs.Sizes.{records_length}
 use Rattle.questions.specs.Tiling.{Answer, number_in, table_faults, refusal, figures, room_refusal, handing, HandsOver}
 use Rattle.questions.specs.declared.Figures.{Figures}
 use Rattle.questions.proofs.Passing.{refused_number}
@@ -85,13 +87,22 @@ module _ (s : Sheet) (room room' : List ℕ) (a : Answer) (z : number_in a ≡ 0
 
 -- a question that is answered with figures shows the tiling given
 module _ (d : Desk) (q : Sheet) (h : d.sheet ≡ Some q) (f : Figures) {table table' room room' : List ℕ} (s : SheetReply q table table' room room' (Ok f)) {out out' : List ℕ} {r : Turn} where
-  pub asked_shown : r.desk ≡ d → Put out 0 (printed 81 (f.total ∷ f.parts ∷ f.gaps ∷ []) ++ record_lines room' f.parts) r.written out' → AskedOf d table table' room room' out out' r
+  pub asked_shown : r.desk ≡ d
+      → Put out 0 (printed 81 (f.total ∷ f.parts ∷ f.gaps ∷ []) ++ record_lines (take (6 * f.parts) room') (length (take (6 * f.parts) room') / 6)) r.written out'
+      → AskedOf d table table' room room' out out' r
   asked_shown e p =
       let w = accepted q room room' (Ok f) refl table table' s in
       let x : Text = text_of q in
       let k : Ok f ≡ figures w.parts = w.answer in
       let those : f ≡ record { total = total w.parts; parts = length w.parts; gaps = gaps w.parts } = cc in
-      let same : printed 81 (f.total ∷ f.parts ∷ f.gaps ∷ []) ++ record_lines room' f.parts ≡ tiling_text x w.parts =
-      ap₂ (λ (b : Figures) (m : List ℕ). printed 81 (b.total ∷ b.parts ∷ b.gaps ∷ []) ++ record_lines m b.parts) those w.records
-      ∙ ap (λ (m : List ℕ). printed 81 (total w.parts ∷ length w.parts ∷ gaps w.parts ∷ []) ++ m) (lines_of_records x 0 w.parts w.rest) in
+      let first : List ℕ = records_from x 0 w.parts in
+      let long : length first ≡ 6 * length w.parts = records_length x 0 w.parts in
+      let lent : take (6 * f.parts) room' ≡ first =
+      ap₂ (λ (b : Figures) (m : List ℕ). take (6 * b.parts) m) those w.records
+      ∙ ap (λ (n : ℕ). take n (first ++ w.rest)) (sym long)
+      ∙ take-append_seam first w.rest in
+      let many : length first / 6 ≡ length w.parts = omega (arith, long) in
+      let same : printed 81 (f.total ∷ f.parts ∷ f.gaps ∷ []) ++ record_lines (take (6 * f.parts) room') (length (take (6 * f.parts) room') / 6) ≡ tiling_text x w.parts =
+      ap₂ (λ (b : Figures) (m : List ℕ). printed 81 (b.total ∷ b.parts ∷ b.gaps ∷ []) ++ record_lines m (length m / 6)) those lent
+      ∙ ap (λ (m : List ℕ). printed 81 (total w.parts ∷ length w.parts ∷ gaps w.parts ∷ []) ++ m) (ap (record_lines first) many ∙ lines_of_records x 0 w.parts) in
       (tiling_text x w.parts, inr (q, h, e, record { answer = Ok f; reply = s; printed = inr (w.parts, w.given, w.answer, refl) }), subst (λ (m : List ℕ). Put out 0 m r.written out') same p)

@@ -24,6 +24,7 @@ use Rattle.desk.specs.declared.Turn.{Turn}
 abbrev pub new_desk : Desk
 new_desk = record { sheet = None }
 
+-- The desk with a sheet open.
 abbrev pub with_sheet : Sheet → Desk
 with_sheet s = record { sheet = Some s }
 
@@ -35,12 +36,12 @@ map_of complement = cond complement complement_map plain_map
 unfoldable pub opening : Desk → Reply → Desk × List ℕ
 opening d r = (cond (eqb (number_of r.said) 0) (with_sheet r.sheet) d, said_text r.said)
 
--- A call prints what it says and leaves the sheet that it hands back; 14 where there is none to call on.
+-- What a call does to a desk, by the sheet given: it prints what it says and leaves the sheet that it hands back; with none, 14 is printed and the desk stays.
 abbrev pub called : Desk → (Sheet → Reply) → (Result Said Refusal → List ℕ) → Option Sheet → Desk × List ℕ
 called d call show None = (d, refusal_text 14)
 called d call show (Some s) = (with_sheet (call s).sheet, show (call s).said)
 
--- A call on the sheet prints what it says and leaves the sheet that it hands back; 14 where no sheet is open.
+-- The same by the desk's own sheet.
 unfoldable pub calling : Desk → (Sheet → Reply) → (Result Said Refusal → List ℕ) → Desk × List ℕ
 calling d call show = called d call show d.sheet
 

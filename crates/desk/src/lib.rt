@@ -1,4 +1,4 @@
-// The desk: one line in, one reply out, over 'no sheet yet' or a sheet.
+// The desk: one line in, one reply out. It holds a sheet once an opening was accepted.
 #![tactic(auto)]
 
 ghost use Rattle.std.specs.Prelude.{◌≡◌};
@@ -12,6 +12,7 @@ ghost use Rattle.desk.specs.Work.{said_behind, Turned, AskedOf};
 use changes::Edit;
 use lines::Line;
 use printing::Page;
+use records::SIZE;
 use replies::{put_record_lines, put_refusal, put_restored, put_said};
 use sheet::{Reply, Sheet};
 use terms::limits::Limits;
@@ -43,7 +44,7 @@ fn map_of(complement: bool) -> [u8; 256]
     }
 }
 
-// A sheet is open, and what its call says is printed; behind a letter, what a take-back or a put-again says.
+// The sheet that a call hands back goes on the desk, and what the call says is printed. A take-back and a put-again give the letter of their line.
 fn said(reply: Reply, letter: Option<u8>, out: &mut [u8]) -> Turn
     ensures { Turned (with_sheet reply.sheet, said_behind letter reply.said) out.old out.new result }
 {
@@ -97,8 +98,9 @@ impl Desk {
         }
     }
 
-    // A call for a change, or 14.
-    // No function for the three calls with the call as a closure: it was tried, and each line copied the sheet three times more.
+    // A call for a change; 14 where no sheet is open.
+    // This and the two below stay three functions: one for all needs a match on the line and on its letter, which `answer` has already.
+    // With the call as a closure each line copied the sheet three times more, as was measured.
     #[tactic(auto, unfolding(crate::specs::Desk::calling))]
     fn change(self, e: Edit, out: &mut [u8]) -> Turn
         ensures { Turned (calling self (λ s. change_call s e) said_text) out.old out.new result }
@@ -109,7 +111,7 @@ impl Desk {
         }
     }
 
-    // A take-back, or 14.
+    // A take-back; 14 where no sheet is open.
     #[tactic(auto, unfolding(crate::specs::Desk::calling))]
     fn take_back(self, out: &mut [u8]) -> Turn
         ensures { Turned (calling self take_back_call (restored_text 66)) out.old out.new result }
@@ -120,7 +122,7 @@ impl Desk {
         }
     }
 
-    // A put-again, or 14.
+    // A put-again; 14 where no sheet is open.
     #[tactic(auto, unfolding(crate::specs::Desk::calling))]
     fn put_again(self, out: &mut [u8]) -> Turn
         ensures { Turned (calling self put_again_call (restored_text 65)) out.old out.new result }
@@ -131,7 +133,7 @@ impl Desk {
         }
     }
 
-    // The question: its refusal, or the tiling's figures and a line for each record.
+    // The question: its refusal, or the tiling's figures and a line for each record; 14 where no sheet is open.
     fn question(self, table: &mut [u16], room: &mut [u8], out: &mut [u8]) -> Turn
         ensures { AskedOf self table.old table.new room.old room.new out.old out.new result }
     {
@@ -142,11 +144,9 @@ impl Desk {
             Ok(answer) => answer,
             Err(why) => return self.refused(Refusal::from(why), out),
         };
-        let parts = answer.parts;
-        let numbers = [answer.total, parts, answer.gaps];
         let mut page = Page { room: out, at: 0 };
-        page.put_line(b'Q', &numbers);
-        put_record_lines(&mut page, room, parts);
+        page.put_line(b'Q', &[answer.total, answer.parts, answer.gaps]);
+        put_record_lines(&mut page, &room[..SIZE * answer.parts]);
         Turn {
             desk: self,
             written: page.at,

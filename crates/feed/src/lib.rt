@@ -9,7 +9,15 @@ ghost use Rattle.feed.specs.Feeding.{up_to_end, TakesOn};
 use printing::Page;
 
 // The line end.
-pub const END: u8 = 10;
+pub const END: u8 = b'\n';
+
+// The bytes kept of a line that has no end yet: the first `at` of N.
+#[derive(Drop)]
+pub struct Begun<const N: usize> {
+    pub bytes: [u8; N],
+    pub at: usize,
+    ghost fits: { at ≤ N },
+}
 
 // The bytes kept of a line, where the piece is read on, and whether the line is whole: a flag, as both numbers stand whether it is or not.
 #[derive(Clone, Copy)]

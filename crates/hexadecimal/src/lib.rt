@@ -44,6 +44,7 @@ pub fn read_hex(s: &[u8], from: usize, room: &mut [u8]) -> HexRead
             return HexRead { bytes: k, next: at };
         };
         *slot = b;
+        // A place of its own: that `from + 2 * k` fits is not known where no digit stands.
         at += 2;
     }
     let bytes = room.len();

@@ -49,9 +49,9 @@ fn three_bases() -> [u8; 256]
     ensures { result ≡ three_bases }
 {
     let mut flags = no_byte();
-    flags[65] = 1;
-    flags[67] = 1;
-    flags[71] = 1;
+    flags[usize::from(b'A')] = 1;
+    flags[usize::from(b'C')] = 1;
+    flags[usize::from(b'G')] = 1;
     flags
 }
 
@@ -60,7 +60,7 @@ fn four_bases() -> [u8; 256]
     ensures { result ≡ four_bases }
 {
     let mut flags = three_bases();
-    flags[84] = 1;
+    flags[usize::from(b'T')] = 1;
     flags
 }
 
@@ -70,7 +70,7 @@ fn bases_and_n() -> [u8; 256]
     ensures { result ≡ bases_and_n }
 {
     let mut flags = four_bases();
-    flags[78] = 255;
+    flags[usize::from(b'N')] = 255;
     flags
 }
 
@@ -80,30 +80,12 @@ impl Alphabet {
         ensures { LendsFlags self result }
     {
         match self {
-            Alphabet::All => Lent {
-                bytes: all(),
-                size: 256,
-            },
-            Alphabet::Bases => Lent {
-                bytes: four_bases(),
-                size: 256,
-            },
-            Alphabet::BasesAndN => Lent {
-                bytes: bases_and_n(),
-                size: 256,
-            },
-            Alphabet::Open => Lent {
-                bytes: three_bases(),
-                size: 256,
-            },
-            Alphabet::Short => Lent {
-                bytes: all(),
-                size: 255,
-            },
-            Alphabet::Empty => Lent {
-                bytes: no_byte(),
-                size: 256,
-            },
+            Alphabet::All => Lent::whole(all()),
+            Alphabet::Bases => Lent::whole(four_bases()),
+            Alphabet::BasesAndN => Lent::whole(bases_and_n()),
+            Alphabet::Open => Lent::whole(three_bases()),
+            Alphabet::Short => Lent::short(all()),
+            Alphabet::Empty => Lent::whole(no_byte()),
         }
     }
 }

@@ -26,7 +26,7 @@ pub struct CentresAsk {
     pub from: usize,
 }
 
-// What a line asks. Its string is the rest of the line from a place on; of two strings the second begins at a place of its own.
+// What a line asks. Its string is the rest of the line from a place on, as `Line` has it; of two strings the second begins at a place of its own.
 #[derive(Clone, Copy)]
 pub enum Ask {
     Tiling(TilingAsk),

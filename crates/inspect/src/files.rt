@@ -23,50 +23,51 @@ fn put_step(out: &mut [u8], found: Result<Option<(Record, usize)>, Refusal>) -> 
     let mut page = Page { room: out, at: 0 };
     match found {
         Ok(Some((part, next))) => {
-            let tag = part.tag as usize;
-            let errors = part.errors as usize;
-            let numbers = [0, tag, errors, part.start, part.length, next];
-            page.put_line(b'F', &numbers)
+            let tag = usize::from(part.tag);
+            let errors = usize::from(part.errors);
+            page.put_line(b'F', &[0, tag, errors, part.start, part.length, next])
         }
-        Ok(None) => {
-            let numbers = [0];
-            page.put_line(b'F', &numbers)
-        }
-        Err(refusal) => {
-            let numbers = [refusal.number()];
-            page.put_line(b'F', &numbers)
-        }
+        Ok(None) => page.put_line(b'F', &[0]),
+        Err(refusal) => page.put_line(b'F', &[refusal.number()]),
     }
     page.at
 }
 
-// What a line about a file asks; the file begins at a place of the line.
+// What a step of the reader is asked with; the file begins at a place of the line.
+#[derive(Clone, Copy)]
+struct StepAsk {
+    place: usize,
+    from: usize,
+}
+
+// What the second question is asked with.
+#[derive(Clone, Copy)]
+struct AgreeAsk {
+    limits: Limits,
+    letters: Letters,
+    from: usize,
+}
+
+// What a line about a file asks.
 #[derive(Clone, Copy)]
 enum FileAsk {
-    Step {
-        place: usize,
-        from: usize,
-    },
-    Agree {
-        limits: Limits,
-        letters: Letters,
-        from: usize,
-    },
+    Step(StepAsk),
+    Agree(AgreeAsk),
 }
 
 // `F place file`
-fn step_line(s: &[u8]) -> Option<FileAsk> {
+fn step_line(s: &[u8]) -> Option<StepAsk> {
     let (place, next) = number_after(s, 1)?;
     let from = space_after(s, next)?;
-    Some(FileAsk::Step { place, from })
+    Some(StepAsk { place, from })
 }
 
 // `Y kind m g d map alphabet file string`
-fn agree_line(s: &[u8]) -> Option<FileAsk> {
+fn agree_line(s: &[u8]) -> Option<AgreeAsk> {
     let (limits, a) = four_after(s, 1)?;
     let (letters, b) = both_after(s, a)?;
     let from = space_after(s, b)?;
-    Some(FileAsk::Agree {
+    Some(AgreeAsk {
         limits,
         letters,
         from,
@@ -79,45 +80,36 @@ fn file_line(s: &[u8]) -> Option<FileAsk> {
         return None;
     }
     match *s.first()? {
-        b'F' => step_line(s),
-        b'Y' => agree_line(s),
+        b'F' => Some(FileAsk::Step(step_line(s)?)),
+        b'Y' => Some(FileAsk::Agree(agree_line(s)?)),
         _ => None,
     }
 }
 
 // One step of the reader over the file, which is the rest of the line.
-fn step_from(place: usize, line: &[u8], from: usize, room: &mut [u8], out: &mut [u8]) -> usize
+fn step_from(asked: StepAsk, line: &[u8], room: &mut [u8], out: &mut [u8]) -> usize
     ensures { result ≤ length out.old }
 {
-    let file = read_hex(line, from, room);
-    let end = file.bytes;
+    let file = read_hex(line, asked.from, room);
     if file.next != line.len() {
         return put_refusal(out, Refusal::NotUnderstood.number());
     }
-    put_step(out, reader::read(&room[0..end], place))
+    put_step(out, reader::read(&room[..file.bytes], asked.place))
 }
 
 // The second question. The file ends at a space, and the string is the rest of the line.
-fn agreement(
-    limits: Limits,
-    letters: Letters,
-    line: &[u8],
-    from: usize,
-    room: &mut [u8],
-    out: &mut [u8],
-) -> usize
+fn agreement(asked: AgreeAsk, line: &[u8], room: &mut [u8], out: &mut [u8]) -> usize
     ensures { result ≤ length out.old }
 {
-    let file = read_hex(line, from, room);
-    let end = file.bytes;
+    let file = read_hex(line, asked.from, room);
     let Some(string) = space_after(line, file.next) else {
         return put_refusal(out, Refusal::NotUnderstood.number());
     };
-    let (map, alphabet) = letters.lent();
+    let (map, alphabet) = asked.letters.lent();
     let text = text_with(&line[string..], &map, &alphabet);
-    let numbers = [number_of(agree(text, limits, &room[..end]))];
+    let number = number_of(agree(text, asked.limits, &room[..file.bytes]));
     let mut page = Page { room: out, at: 0 };
-    page.put_line(b'Y', &numbers);
+    page.put_line(b'Y', &[number]);
     page.at
 }
 
@@ -126,14 +118,8 @@ pub fn answer_file(line: &[u8], room: &mut [u8], out: &mut [u8]) -> usize
     ensures { result ≤ length out.old }
 {
     match file_line(line) {
-        Some(FileAsk::Step { place, from }) => step_from(place, line, from, room, out),
-        Some(
-            FileAsk::Agree {
-                limits,
-                letters,
-                from,
-            },
-        ) => agreement(limits, letters, line, from, room, out),
+        Some(FileAsk::Step(a)) => step_from(a, line, room, out),
+        Some(FileAsk::Agree(a)) => agreement(a, line, room, out),
         None => put_refusal(out, Refusal::NotUnderstood.number()),
     }
 }

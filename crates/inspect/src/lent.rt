@@ -14,6 +14,22 @@ pub struct Lent {
 }
 
 impl Lent {
+    // All 256 bytes.
+    pub fn whole(bytes: [u8; 256]) -> Lent
+        ensures bytes { result.bytes ≡ bytes }
+        ensures size { result.size ≡ 256 }
+    {
+        Lent { bytes, size: 256 }
+    }
+
+    // All but the last.
+    pub fn short(bytes: [u8; 256]) -> Lent
+        ensures bytes { result.bytes ≡ bytes }
+        ensures size { result.size ≡ 255 }
+    {
+        Lent { bytes, size: 255 }
+    }
+
     // The bytes that are lent.
     pub fn as_slice(&self) -> &[u8]
         ensures { result.now ≡ take self.now.size self.now.bytes }

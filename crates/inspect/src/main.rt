@@ -14,7 +14,7 @@ ghost use Rattle.std.specs.Prelude.{◌≤◌, ◌<◌, length};
 ghost use Rattle.inspect.specs.Stepping.{Steps};
 
 use crate::answers::answer;
-use feed::feed;
+use feed::{Begun, feed};
 use std::io::Read;
 
 // The most bytes kept of a line: one more than a line may have, so that a line too long is seen to be so.
@@ -34,10 +34,9 @@ struct Rooms {
     out: [u8; REPLY],
 }
 
-// After a step: how many bytes are kept of the line, where the piece is read on, and how many bytes of a reply are to be written.
+// After a step: where the piece is read on, and how many bytes of a reply are to be written.
 #[derive(Clone, Copy)]
 struct Stepped {
-    at: usize,
     from: usize,
     written: usize,
 }
@@ -52,72 +51,61 @@ impl Rooms {
 }
 
 // Takes the line on to its end in the piece and answers it there, or keeps what the piece has of it. `call` says why each program has one.
-fn step(bytes: &mut [u8], at: usize, piece: &[u8], from: usize, rooms: &mut Rooms) -> Stepped
-    requires { (at ≤ length bytes.old) × (from < length piece.now) }
-    ensures { Steps (length bytes.old) (length piece.now) from REPLY result }
+fn step(line: &mut Begun<LINE>, piece: &[u8], from: usize, rooms: &mut Rooms) -> Stepped
+    requires { from < length piece.now }
+    ensures { Steps LINE line.new.at (length piece.now) from REPLY result }
 {
-    let fed = feed(bytes, at, piece, from);
-    let kept = fed.at;
-    let next = fed.from;
+    let fed = feed(&mut line.bytes, line.at, piece, from);
     if fed.whole {
-        let written = rooms.answer(&bytes[..kept]);
+        let written = rooms.answer(&line.bytes[..fed.at]);
+        line.at = 0;
         return Stepped {
-            at: 0,
-            from: next,
+            from: fed.from,
             written,
         };
     }
+    line.at = fed.at;
     Stepped {
-        at: kept,
-        from: next,
+        from: fed.from,
         written: 0,
     }
 }
 
-// All lines that end in a piece, each answered and its reply written before the next is taken on: the bytes kept of the line that has no end yet.
-fn answer_piece(
-    bytes: &mut [u8],
-    at: usize,
-    piece: &[u8],
-    rooms: &mut Rooms,
-    rt: &impl Print,
-) -> usize
-    requires { at ≤ length bytes.old }
-    ensures { result ≤ length bytes.old }
-{
+// All lines that end in a piece, each answered and its reply written before the next is taken on.
+fn answer_piece(line: &mut Begun<LINE>, piece: &[u8], rooms: &mut Rooms, rt: &impl Print) {
     let mut s = Stepped {
-        at,
         from: 0,
         written: 0,
     };
     // No `for`: each step says where the piece is read on.
     while s.from < piece.len() {
-        s = step(bytes, s.at, piece, s.from, rooms);
+        s = step(line, piece, s.from, rooms);
         rt.write_all(&rooms.out[..s.written]).ok();
     }
-    s.at
 }
 
-// A proved loop has to end, and nothing says that the input does: the count is one that no run uses up.
+// A loop that may run forever needs the handle `Wait`, and nothing says that the input ends: the count is one that no run uses up.
 fn main(rt: HostRuntime) {
-    let mut bytes = [0u8; LINE];
+    let mut line = Begun {
+        bytes: [0; LINE],
+        at: 0,
+    };
     let mut piece = [0u8; 65536];
     let mut rooms = Rooms {
         table: [0; LENT],
         room: [0; LENT],
         out: [0; REPLY],
     };
-    let mut at: usize = 0;
     let mut input = rt.stdin();
     for _ in 0..u64::MAX {
         let n = input.read(&mut piece).unwrap_or(0);
         if n == 0 {
             break;
         }
-        at = answer_piece(&mut bytes, at, &piece[..n], &mut rooms, &rt);
+        answer_piece(&mut line, &piece[..n], &mut rooms, &rt);
     }
-    if 0 < at {
-        let n = rooms.answer(&bytes[..at]);
+    if 0 < line.at {
+        let n = rooms.answer(&line.bytes[..line.at]);
         rt.write_all(&rooms.out[..n]).ok();
     }
 }

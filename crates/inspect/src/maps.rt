@@ -55,26 +55,11 @@ impl Map {
         ensures { LendsMap self result }
     {
         match self {
-            Map::Plain => Lent {
-                bytes: plain(),
-                size: 256,
-            },
-            Map::Complement => Lent {
-                bytes: complement(),
-                size: 256,
-            },
-            Map::Short => Lent {
-                bytes: plain(),
-                size: 255,
-            },
-            Map::Shifted => Lent {
-                bytes: shifted(),
-                size: 256,
-            },
-            Map::Paired => Lent {
-                bytes: paired(),
-                size: 256,
-            },
+            Map::Plain => Lent::whole(plain()),
+            Map::Complement => Lent::whole(complement()),
+            Map::Short => Lent::short(plain()),
+            Map::Shifted => Lent::whole(shifted()),
+            Map::Paired => Lent::whole(paired()),
         }
     }
 }

@@ -12,6 +12,7 @@ use stops::figures;
 use terms::refusal::Refusal;
 
 // A letter, all items of a slice as numbers, and a line end.
+// Beside `Page::put_line`, and not in its place: that one promises the numbers lent, which the conversion of a type parameter does not give.
 fn put_items<T: Copy + Into<usize>>(page: &mut Page<'_>, letter: u8, items: &[T])
     ensures { (numbers : List ℕ) × Numbers T.converts items.now numbers × PutOn page.old (printed letter numbers) page.new }
 {
@@ -22,7 +23,7 @@ fn put_items<T: Copy + Into<usize>>(page: &mut Page<'_>, letter: u8, items: &[T]
     page.put_byte(b'\n');
 }
 
-// The number of what is refused, 0 where nothing is.
+// The number of what is refused, 0 where nothing is: a number, as the lines print it and the texts in `specs` have it.
 pub fn number_of(checked: Result<(), Refusal>) -> usize
     ensures { result ≡ fault_of checked }
 {
@@ -82,11 +83,11 @@ pub fn put_stop(out: &mut [u8], found: Result<Reach, Refusal>) -> usize
     page.at
 }
 
-// A refusal's number or 0, as it is printed beside the part's length, and the part handed over.
-pub fn put_part(out: &mut [u8], letter: u8, number: usize, part: &[u8]) -> usize
-    ensures { Put out.old 0 (part_text letter number part.now) result out.new }
+// What a check answered, in numbers, beside the part's length, and the part handed over.
+pub fn put_part(out: &mut [u8], letter: u8, checked: Result<(), Refusal>, part: &[u8]) -> usize
+    ensures { Put out.old 0 (part_text letter (fault_of checked) part.now) result out.new }
 {
-    let numbers = [number, part.len()];
+    let numbers = [number_of(checked), part.len()];
     let mut page = Page { room: out, at: 0 };
     page.put_line(letter, &numbers);
     put_items(&mut page, b'R', part);

@@ -44,14 +44,14 @@ pub fn accepted(
     true
 }
 
-// What popping the history answers: the two cases that the sheet's rules name, and so no Option.
+// What popping the history answers. No Option: the two cases are the form that is named for it (docs/DECISIONS.md, Forms), and `popped_number` is promised of them.
 #[derive(Clone, Copy)]
 pub enum Popped {
     Change(Change),
     Nothing,
 }
 
-// The change found, as it is popped.
+// The change found, as it is popped. A function of this file and no `From`: popping makes it the newest or the last; an Option of a change is neither by itself.
 fn as_popped(found: Option<Change>) -> Popped
     ensures { result ≡ popped_of found }
 {

@@ -18,6 +18,7 @@ number_of i (Some a) (Some b) (Some c) None e = cond (eqb a 0) None (Some (a * 1
 number_of i (Some a) (Some b) (Some c) (Some d) None = cond (eqb a 0) None (Some (a * 1000 + b * 100 + c * 10 + d, i + 4))
 number_of i (Some a) (Some b) (Some c) (Some d) (Some e) = None
 
+-- The number at a place, with the place after it.
 abbrev pub number_at : List ℕ → ℕ → Option (ℕ × ℕ)
 number_at xs i = number_of i (digit_at xs i) (digit_at xs (i + 1)) (digit_at xs (i + 2)) (digit_at xs (i + 3)) (digit_at xs (i + 4))
 
@@ -53,18 +54,23 @@ two_of xs =
 unfoldable pub placed_of : List ℕ → Option (ℕ × ℕ)
 placed_of xs = with_both (two_of xs) (λ p b. cond (leb b 255) (Some (p, b)) None)
 
+-- A line `L place byte`.
 unfoldable pub letter_line : List ℕ → Option Line
 letter_line xs = with_both (placed_of xs) (λ p b. Some (Change (Letter p b)))
 
+-- A line `I place byte`.
 unfoldable pub in_line : List ℕ → Option Line
 in_line xs = with_both (placed_of xs) (λ p b. Some (Change (PutIn p b)))
 
+-- A line `X place`.
 unfoldable pub out_line : List ℕ → Option Line
 out_line xs = with_both (number_after xs 1) (λ p e. ending xs e (Change (TakeOut p)))
 
+-- A line `K kind d`.
 unfoldable pub kind_line : List ℕ → Option Line
 kind_line xs = with_both (two_of xs) (λ k d. Some (Change (Kind k d)))
 
+-- A line `M m g`.
 unfoldable pub lengths_line : List ℕ → Option Line
 lengths_line xs = with_both (two_of xs) (λ m g. Some (Change (Lengths m g)))
 
@@ -74,6 +80,7 @@ string_after xs l i =
     cond (stands xs i 32) (cond (stands xs (i + 2) 32)
     (cond (stands xs (i + 1) 73) (Some (Open l false (i + 3))) (cond (stands xs (i + 1) 67) (Some (Open l true (i + 3))) None)) None) None
 
+-- A line `O kind m g d map string`.
 unfoldable pub open_line : List ℕ → Option Line
 open_line xs = with_both (four_after xs 1) (λ l i. string_after xs l i)
 

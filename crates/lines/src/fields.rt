@@ -1,4 +1,5 @@
 // The fields of a line: a byte, a number, four numbers. Lent to `inspect`.
+// Each is read at a place of the whole line, as the definitions give it; so line and place come together, and no rest of a line.
 ghost use Rattle.std.specs.Prelude.{◌≡◌, ◌+◌, ◌≤◌, length};
 ghost use Rattle.lines.specs.Work.{digit_at, stands, number_at, number_after, four_after};
 
@@ -10,7 +11,7 @@ fn digit(s: &[u8], i: usize) -> Option<usize>
     ensures { result ≡ digit_at s.now i }
 {
     match *s.get(i)? {
-        b @ b'0'..=b'9' => Some((b - b'0') as usize),
+        b @ b'0'..=b'9' => Some(usize::from(b - b'0')),
         _ => None,
     }
 }

@@ -14,7 +14,7 @@ use terms::limits::Limits;
 // The most bytes of a line before its line end.
 pub const BYTES: usize = 1040;
 
-// What a line asks. An opening's string is the rest of the line from a place on; its map is a flag, as `line_text` has two and no more.
+// What a line asks. An opening's string is the rest of the line from a place on: a place and no slice, as `Reads` gives it so. Its map is a flag, as it is in `Asked`, which a reader signs.
 #[derive(Clone, Copy)]
 pub enum Line {
     Open {
@@ -30,7 +30,7 @@ pub enum Line {
     Question,
 }
 
-// ` first second`, behind a line's letter, up to its end
+// The two numbers behind a line's letter, up to its end: ` first second`.
 #[tactic(auto, unfolding(crate::specs::Work::two_of))]
 fn two_numbers(s: &[u8]) -> Option<(usize, usize)>
     ensures { result ≡ two_of s.now }
@@ -40,7 +40,7 @@ fn two_numbers(s: &[u8]) -> Option<(usize, usize)>
     (behind == s.len()).then_some((first, second))
 }
 
-// ` place byte`, behind a line's letter, up to its end
+// The place and the byte behind a line's letter, up to its end: ` place byte`.
 #[tactic(auto, unfolding(crate::specs::Work::placed_of))]
 fn place_byte(s: &[u8]) -> Option<(usize, u8)>
     ensures { result ≡ placed_of s.now }
@@ -49,7 +49,7 @@ fn place_byte(s: &[u8]) -> Option<(usize, u8)>
     Some((place, u8::try_from(byte).ok()?))
 }
 
-// `X place`
+// A line `X place`.
 #[tactic(auto, unfolding(crate::specs::Work::out_line))]
 fn out_line(s: &[u8]) -> Option<Line>
     ensures { result ≡ out_line s.now }
@@ -59,7 +59,7 @@ fn out_line(s: &[u8]) -> Option<Line>
     (end == s.len()).then_some(Line::Change { edit })
 }
 
-// `O kind m g d map string`
+// A line `O kind m g d map string`.
 #[tactic(auto, unfolding(crate::specs::Work::open_line, crate::specs::Work::stands))]
 fn open_line(s: &[u8]) -> Option<Line>
     ensures { result ≡ open_line s.now }
@@ -87,7 +87,7 @@ fn alone(s: &[u8], line: Line) -> Option<Line>
     (s.len() == 1).then_some(line)
 }
 
-// A line of any length.
+// What a line asks, however long it is.
 #[tactic(auto, unfolding(crate::specs::Work::line_of, crate::specs::Work::stands, crate::specs::Work::letter_line, crate::specs::Work::in_line, crate::specs::Work::kind_line, crate::specs::Work::lengths_line))]
 fn line_of(s: &[u8]) -> Option<Line>
     ensures { result ≡ line_of s.now }
@@ -119,7 +119,7 @@ fn line_of(s: &[u8]) -> Option<Line>
     Some(Line::Change { edit })
 }
 
-// One line, without its line end.
+// What a line asks; it comes without its line end.
 #[tactic(auto, using(crate::proofs::Reading::line_reads, crate::proofs::Reading::too_long))]
 pub fn parse(s: &[u8]) -> Option<Line>
     ensures { Reads s.now result }

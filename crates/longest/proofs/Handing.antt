@@ -1,23 +1,14 @@
 -- What a search that is not refused may count on. Assumes nothing.
-use mathlib.Core.Path.{◌≡◌, refl, sym, ◌∙◌}
-use mathlib.Core.Bool.{false}
+use mathlib.Core.Path.{◌≡◌, sym, ◌∙◌}
 use mathlib.Core.List.{List}
 use Prim.Native.Nat.{ℕ}
 use native.Mathlib.Omega.{arith}
-use Rattle.std.specs.Prelude.{Result, Ok, Err, is_err}
-use Rattle.terms.specs.Refusals.{first_fault, fault_of}
-use Rattle.terms.specs.declared.refusal.Refusal.{Refusal}
+use Rattle.terms.specs.Refusals.{first_fault}
 use Rattle.terms.specs.Maps.{map_faults}
 use Rattle.terms.specs.Texts.{too_long, string_faults, pair_faults}
 use Rattle.terms.specs.Passed.{SoundString}
 use Rattle.terms.proofs.Below.{or_left, or_right}
 use Rattle.terms.proofs.Passed.{passed, sound_string}
-use Rattle.terms.proofs.Refusals.{false_true}
-
--- A call that is not refused answers 0.
-pub is_accepted : (q : Result (Unit {0}) Refusal) → is_err q ≡ false → fault_of q ≡ 0
-is_accepted (Ok u) n = refl
-is_accepted (Err e) n = absurd (false_true n)
 
 -- Where two strings and a map meet no refusal, neither string with the map does.
 pub sound_pair : (s t f : List ℕ) (k : ℕ) → k ≡ first_fault (pair_faults s t f) → k ≡ 0 → SoundString s f × SoundString t f

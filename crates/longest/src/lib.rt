@@ -11,6 +11,8 @@ ghost use Rattle.longest.specs.Longest.{HandsLongest, HandsLonger};
 use crate::search::{Span, first_longest, part};
 use terms::refusal::Refusal;
 
+// String and map stand apart: the part handed back may outlive the map, which one lifetime for both would forbid, and `longer` has two strings with one map.
+
 // The first refusal of the longest palindrome of a string.
 pub fn check_longest(s: &[u8], map: &[u8]) -> Result<(), Refusal>
     ensures { fault_of result ≡ first_fault (string_faults s.now map.now) }

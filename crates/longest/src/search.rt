@@ -7,7 +7,7 @@ ghost use Rattle.longest.specs.Work.{Longer};
 use spans::centre_count;
 use spans::outward::walk;
 use terms::alphabets;
-use texts::flags::own_partner;
+use texts::Text;
 
 // A part of a string by its place; of no letters where there is no palindrome, since that empty part is what `longest` hands back.
 #[derive(Clone, Copy)]
@@ -35,10 +35,16 @@ pub(crate) fn first_longest(s: &[u8], map: &[u8]) -> Span
     requires { SoundString s.now map.now }
     ensures { FirstLongest s.now map.now result.start result.len }
 {
-    let own = own_partner(map, &alphabets::all());
+    let all = alphabets::all();
+    let text = Text {
+        letters: s,
+        map,
+        alphabet: &all,
+    };
+    let own = text.own_partner();
     let mut best = Span { start: 0, len: 0 };
     for c in 0..centre_count(s.len()) {
-        let found = walk(s, map, 0, c, own);
+        let found = walk(text, 0, c, own);
         best = longer_of(best, c, usize::from(found.length));
     }
     best

@@ -26,50 +26,52 @@ pub fn padded<const N: usize>(bytes: &[u8]) -> [u8; N]
     a
 }
 
-// The first n letters, with their map and alphabet. A sheet's places come apart to the two functions below, as its struct stands above this crate.
-fn first<'a>(
-    letters: &'a [u8; LETTERS],
-    n: usize,
-    map: &'a [u8; 256],
-    alphabet: &'a [u8; 256],
-) -> Text<'a>
-    requires { n ≤ 1000 }
-    ensures { text_of result ≡ text (take n letters.now) map.now alphabet.now }
-{
-    Text {
-        letters: &letters[..n],
-        map,
-        alphabet,
+// A sheet's places, lent: 1,000 for letters, of which the first n hold one, and 256 each for map and alphabet.
+// With n and as no slice: `check_opening` and `tile` promise of the first n of 1,000 places, whatever stands behind.
+#[derive(Clone, Copy)]
+pub struct Places<'a> {
+    pub letters: &'a [u8; LETTERS],
+    pub n: usize,
+    pub map: &'a [u8; 256],
+    pub alphabet: &'a [u8; 256],
+    pub ghost bound: { n ≤ 1000 },
+}
+
+impl<'a> Places<'a> {
+    // The first n letters, with their map and alphabet.
+    fn text(self) -> Text<'a>
+        ensures { text_of result ≡ text (take self.entry.n self.entry.letters.now) self.entry.map.now self.entry.alphabet.now }
+    {
+        let Places {
+            letters,
+            n,
+            map,
+            alphabet,
+            ..
+        } = self;
+        Text {
+            letters: &letters[..n],
+            map,
+            alphabet,
+        }
     }
-}
 
-// The first refusal that an opening with the first n letters would meet.
-pub fn check_opening(
-    letters: &[u8; LETTERS],
-    n: usize,
-    map: &[u8; 256],
-    limits: Limits,
-    alphabet: &[u8; 256],
-) -> Result<(), Refusal>
-    requires { n ≤ 1000 }
-    ensures { fault_of result ≡ first_fault (opening_faults (text (take n letters.now) map.now alphabet.now) limits) }
-{
-    first(letters, n, map, alphabet).check_opening(limits)
-}
+    // The first refusal that an opening with the first n letters would meet.
+    pub fn check_opening(self, limits: Limits) -> Result<(), Refusal>
+        ensures { fault_of result ≡ first_fault (opening_faults (text (take self.entry.n self.entry.letters.now) self.entry.map.now self.entry.alphabet.now) limits) }
+    {
+        self.text().check_opening(limits)
+    }
 
-// The tiling question on the first n letters.
-pub fn tile_first(
-    letters: &[u8; LETTERS],
-    n: usize,
-    map: &[u8; 256],
-    limits: Limits,
-    table: &mut [u16],
-    room: &mut [u8],
-    alphabet: &[u8; 256],
-) -> Result<Figures, Untiled>
-    requires { n ≤ 1000 }
-    ensures { TilingReply (text (take n letters.now) map.now alphabet.now) limits table.old table.new room.old room.new result }
-{
-    let text = first(letters, n, map, alphabet);
-    questions::tile(text, limits, table, room)
+    // The tiling question on the first n letters.
+    pub fn tile(
+        self,
+        limits: Limits,
+        table: &mut [u16],
+        room: &mut [u8],
+    ) -> Result<Figures, Untiled>
+        ensures { TilingReply (text (take self.entry.n self.entry.letters.now) self.entry.map.now self.entry.alphabet.now) limits table.old table.new room.old room.new result }
+    {
+        questions::tile(self.text(), limits, table, room)
+    }
 }

@@ -5,7 +5,7 @@ ghost use Rattle.std.specs.Prelude.{[], ◌∷◌, ◌≤◌, length};
 ghost use Rattle.printing.specs.Printing.{fields, printed};
 ghost use Rattle.printing.specs.Pages.{PutOn};
 
-// A lent room, and the place behind what is put.
+// A lent room, and the place behind what is put. Lines are put by hand and not by `Display`: `Put` says what a room that is too short takes.
 #[derive(Drop)]
 pub struct Page<'a> {
     pub room: &'a mut [u8],

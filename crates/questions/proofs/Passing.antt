@@ -31,9 +31,6 @@ module _ (x : Text) (l : Limits) (lent : ℕ) where
   unfolding table_faults
   opening_refuses = fault_first (opening_faults x l) Later
 
-  pub opening_names : (k : ℕ) → k ≡ first_fault (opening_faults x l) → (k ≡ 0 → ⊥) → (e : Refusal) → e ≡ refusal_of k → refusal_number e ≡ first_fault (table_faults x l lent)
-  opening_names k h n e z = ap refusal_number (z ∙ ap refusal_of h) ∙ fault_named (opening_faults x l) (opening_named x l) (λ q. n (h ∙ q)) ∙ sym h ∙ opening_refuses k h n
-
   -- every number of the list names a refusal
   pub table_named : AllNamed (table_faults x l lent)
   unfolding table_faults

@@ -1,21 +1,24 @@
 // The tiling question without a sheet.
 #![tactic(auto)]
 
-ghost use Rattle.std.specs.Prelude.{◌≡◌, ◌≤◌, length};
+ghost use Rattle.std.specs.Prelude.{◌≡◌, ◌≤◌, List, length};
 ghost use Rattle.terms.specs.Refusals.{first_fault, fault_of};
-ghost use Rattle.terms.specs.Passed.{EverySound, SomeSound, SoundLimits};
+ghost use Rattle.terms.specs.Passed.{SoundText, SoundLimits};
 ghost use Rattle.texts.specs.Lent.{text_of};
 ghost use Rattle.spans.specs.Palindromes.{centres};
 ghost use Rattle.spans.specs.Centres.{Holds};
-ghost use Rattle.tilings.specs.Tilings.{entries, Table};
-ghost use Rattle.tilings.specs.Work.{board_by};
+ghost use Rattle.tilings.specs.Tilings.{Part, Given, entries, Table};
 ghost use Rattle.boards.specs.Pieces.{board};
-ghost use Rattle.table.specs.Work.{Known};
+ghost use Rattle.ways.specs.Spans.{board_of};
+ghost use Rattle.table.specs.Work.{KnownFrom};
+ghost use Rattle.records.specs.Work.{Writable};
 ghost use Rattle.questions.specs.Tiling.{table_faults, behind, HandsOver, TilingReply};
+ghost use Rattle.questions.specs.Work.{HandsOverOn};
 ghost use Rattle.questions.specs.declared.Untiled.TheVariants.{Refused};
 
 use reading::read_parts;
 use records::{SIZE, put_parts};
+use rows::NO_TILING;
 use spans::fill_lengths;
 use table::{Totals, fill_table};
 use terms::limits::Limits;
@@ -70,27 +73,15 @@ fn check_table(text: Text, limits: Limits, lent: usize) -> Result<(), Refusal>
     Ok(())
 }
 
-// The tiling given is read out of a full table, and its records are written.
-fn hand_over(
-    s: &[u8],
-    map: &[u8],
-    lens: &[u16],
-    limits: Limits,
-    table: &[u16],
-    room: &mut [u8],
-) -> Result<Figures, Untiled>
-    requires some_sound { SomeSound s.now map.now (λ x. Holds x limits.d lens.now) }
-    requires sound_limits { SoundLimits limits }
-    requires lengths_fit { centres (length s.now) ≤ length lens.now }
-    requires known { Known (board_by lens.now (length s.now) limits.kind limits.m) limits.g 0 table.now }
-    ensures { EverySound s.now map.now (λ x. Holds x limits.d lens.now) (λ x. HandsOver x limits room.old room.new result) }
+// Reads the tiling given out of a full table, and writes its records. The board is whatever the table is over; the caller knows that it is the string's own.
+fn hand_over(text: Text, totals: Totals, room: &mut [u8]) -> Result<Figures, Untiled>
+    requires sizes { (length text.map.now ≡ 256) × (totals.spans.n ≡ length text.letters.now) }
+    requires known { KnownFrom totals 0 }
+    requires writable { (ps : List Part) → Given (board_of totals.spans) 0 totals.g ps → Writable (text_of text) 0 ps }
+    ensures { HandsOverOn (text_of text.entry) (board_of totals.entry.spans) totals.entry.g room.old room.new result }
 {
-    let n = s.len();
-    let Limits { kind, m, g, .. } = limits;
-    let spans = Spans { lens, n, kind, m };
-    let totals = Totals { spans, g, t: table };
-    let least = totals.at(0, g);
-    if least == 65535 {
+    let least = totals.at(0, totals.g);
+    if least == NO_TILING {
         return Err(Untiled::Refused(Refusal::NoTiling));
     }
     let mut codes = [0u16; LETTERS];
@@ -99,37 +90,38 @@ fn hand_over(
     if room.len() < SIZE * parts {
         return Err(Untiled::ShortRoom { parts });
     }
-    put_parts(s, map, &codes[..parts], room);
+    put_parts(text, &codes[..parts], room);
     Ok(Figures {
-        total: least as usize,
+        total: usize::from(least),
         parts,
         gaps: read.gaps,
     })
 }
 
 // The question after its tests, with the maximal lengths lent: the table, and what is handed over.
-// The string and its map apart: that a letter is a byte is known of a lent slice, and not of one in a struct.
 fn tile_by(
-    s: &[u8],
-    map: &[u8],
+    text: Text,
     lens: &[u16],
     limits: Limits,
     table: &mut [u16],
     room: &mut [u8],
 ) -> Result<Figures, Untiled>
-    requires some_sound { SomeSound s.now map.now (λ x. Holds x limits.d lens.now) }
+    requires sound_text { SoundText (text_of text) }
     requires sound_limits { SoundLimits limits }
-    requires lengths_fit { centres (length s.now) ≤ length lens.now }
-    requires table_fits { entries (length s.now) limits.g ≤ length table.old }
-    ensures { EverySound s.now map.now (λ x. Holds x limits.d lens.now) (λ x. Table (board x limits) limits.g table.old table.new × HandsOver x limits room.old room.new result) }
+    requires held { Holds (text_of text) limits.d lens.now }
+    requires lengths_fit { centres (length text.letters.now) ≤ length lens.now }
+    requires table_fits { entries (length text.letters.now) limits.g ≤ length table.old }
+    ensures { Table (board (text_of text.entry) limits) limits.g table.old table.new × HandsOver (text_of text.entry) limits room.old room.new result }
 {
-    let n = s.len();
+    let n = text.letters.len();
     let Limits { kind, m, g, .. } = limits;
-    fill_table(Spans { lens, n, kind, m }, g, table);
-    hand_over(s, map, lens, limits, table, room)
+    let spans = Spans { lens, n, kind, m };
+    fill_table(spans, g, table);
+    hand_over(text, Totals { spans, g, t: table }, room)
 }
 
 // The tiling question: fills the table, and writes the records of the tiling given.
+// Table and room come one by one: `TilingReply` speaks of each as lent and as left, and callers lend two slices of their own.
 pub fn tile(
     text: Text,
     limits: Limits,
@@ -141,5 +133,5 @@ pub fn tile(
     check_table(text, limits, table.len())?;
     let mut lens = [0u16; CENTRES];
     fill_lengths(text, limits.d, &mut lens);
-    tile_by(text.letters, text.map, &lens, limits, table, room)
+    tile_by(text, &lens, limits, table, room)
 }

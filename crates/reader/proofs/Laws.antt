@@ -10,24 +10,24 @@ use lib.Dec.{eqb}
 use lib.ListN.{length, get_or, take, drop, length-drop}
 use lib.Seq.{take_at, drop_at, drop-drop}
 use Rattle.std.specs.Prelude.{None, Some, Ok, Err}
-use Rattle.terms.specs.Refusals.{first_fault, fault_of, OneOf}
+use Rattle.terms.specs.Refusals.{refusal_number, refusal_of, first_fault, fault_of, OneOf}
 use Rattle.terms.specs.Texts.{Text}
 use Rattle.tilings.specs.Tilings.{Part, piece, gap}
 use Rattle.tilings.specs.Laws.{length_of}
 use Rattle.records.specs.Records.{tag_of, record_of, records_from}
-use Rattle.reader.specs.Reader.{record_bytes, record_at, step_faults, Stepped, step_refusal, unless_refused, step_of, step_values}
+use Rattle.reader.specs.Reader.{record_bytes, record_at, step_faults, Stepped, unless_refused, step_of, step_values}
 use Rattle.reader.specs.Laws.{StepLaws, saying_of, HandsOut, ReadsBack}
 use Rattle.reader.specs.declared.Record.{Record}
 use Rattle.reader.proofs.Bytes.{says}
-use Rattle.reader.proofs.Steps.{faults, number_of}
+use Rattle.reader.proofs.Steps.{faults, named}
 
 -- a refusal's number is its own, and an answer's is 0
-unless_number : (k : ℕ) (a : Stepped) → OneOf k (0 ∷ 6 ∷ 15 ∷ 16 ∷ []) → fault_of a ≡ 0 → fault_of (unless_refused k a) ≡ k
+unless_number : (k : ℕ) (a : Stepped) → ((k ≡ 0 → ⊥) → refusal_number (refusal_of k) ≡ k) → fault_of a ≡ 0 → fault_of (unless_refused k a) ≡ k
 unless_number k a o e = go (eqb k 0) refl
   where
-    go : (t : Bool) → eqb k 0 ≡ t → fault_of (cond t a (Err (step_refusal k))) ≡ k
+    go : (t : Bool) → eqb k 0 ≡ t → fault_of (cond t a (Err (refusal_of k))) ≡ k
     go true h = e ∙ sym (eqb-true k 0 h)
-    go false h = number_of k o (eqb-false k 0 h)
+    go false h = o (eqb-false k 0 h)
 
 -- an answer that has a number is a refusal
 refused_zeros : (a : Stepped) → (fault_of a ≡ 0 → ⊥) → step_values a ≡ 0 ∷ 0 ∷ 0 ∷ 0 ∷ 0 ∷ []
@@ -42,7 +42,7 @@ module _ (file : List ℕ) (at : ℕ) where
 
   elsewhere : (at ≡ length file → ⊥) → fault_of (step_of file at) ≡ first_fault (step_faults file at)
   unfolding step_of
-  elsewhere n = simp (ne_eqb _ _ n) (unless_number (first_fault (step_faults file at)) (Ok (Some (record_at file at, at + 6))) (faults file at) refl)
+  elsewhere n = simp (ne_eqb _ _ n) (unless_number (first_fault (step_faults file at)) (Ok (Some (record_at file at, at + 6))) (named file at) refl)
 
   all_listed : OneOf (fault_of (step_of file at)) (0 ∷ 6 ∷ 15 ∷ 16 ∷ [])
   all_listed = go (eqb at (length file)) refl

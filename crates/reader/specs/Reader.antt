@@ -1,8 +1,7 @@
 -- Part records read back, one record a step (02, L1).
 use Rattle.std.specs.Prelude.{Bool, not, cond, ◌||◌, List, [], ◌∷◌, ℕ, ◌+◌, ◌*◌, ◌%◌, eqb, ltb, length, get_or, take, drop, Option, None, Some, Result, Ok, Err}
-use Rattle.terms.specs.Refusals.{first_fault}
+use Rattle.terms.specs.Refusals.{refusal_of, first_fault}
 use Rattle.terms.specs.declared.refusal.Refusal.{Refusal}
-use Rattle.terms.specs.declared.refusal.Refusal.TheVariants.{NoSuchPlace, NoWholeRecord, WrongRecord}
 use Rattle.records.specs.Records.{record_size}
 use Rattle.reader.specs.declared.Record.{Record}
 
@@ -32,13 +31,9 @@ step_faults file at =
 abbrev pub Stepped : Type 0
 Stepped = Result (Option (Record × ℕ)) Refusal
 
--- The refusals of a step by their numbers.
-abbrev pub step_refusal : ℕ → Refusal
-step_refusal k = cond (eqb k 6) NoSuchPlace (cond (eqb k 15) NoWholeRecord WrongRecord)
-
 -- A refusal where there is one, else the answer.
 abbrev pub unless_refused : ℕ → Stepped → Stepped
-unless_refused k answer = cond (eqb k 0) answer (Err (step_refusal k))
+unless_refused k answer = cond (eqb k 0) answer (Err (refusal_of k))
 
 -- One step: the end itself says finished; else a refusal, or the part with the place of the next.
 unfoldable pub step_of : List ℕ → ℕ → Stepped

@@ -5,15 +5,10 @@ ghost use Rattle.std.specs.Prelude.{◌≡◌, ◌+◌, ◌*◌, ◌≤◌, leng
 ghost use Rattle.terms.specs.Refusals.{first_fault, fault_of};
 ghost use Rattle.reader.specs.Reader.{record_at, step_faults, step_of};
 
-use records::SIZE;
+use records::{GAP, PIECE, SIZE};
 use terms::refusal::Refusal;
 
-// The bytes that say that a record is a piece's, or a gap's.
-pub const PIECE: u8 = 80;
-
-pub const GAP: u8 = 71;
-
-// What a record says of its part.
+// What a record says of its part. The tag is a byte and no enum: `record_at` never fails and gives whatever byte stands there, and any is judged.
 #[derive(Clone, Copy)]
 pub struct Record {
     pub tag: u8,
@@ -26,10 +21,10 @@ pub struct Record {
 fn word(high: u8, low: u8) -> usize
     ensures { result ≡ high * 256 + low }
 {
-    u16::from_be_bytes([high, low]) as usize
+    usize::from(u16::from_be_bytes([high, low]))
 }
 
-// The record in the six bytes from a place.
+// The record in the six bytes from a place. The promise is of any place, as `step` reads at one.
 pub fn record_at(file: &[u8], at: usize) -> Record
     requires { at + 6 ≤ length file.now }
     ensures { result ≡ record_at file.now at }
@@ -43,6 +38,7 @@ pub fn record_at(file: &[u8], at: usize) -> Record
 }
 
 // The first refusal of a step from a place.
+#[tactic(auto, unfolding(crate::specs::Reader::step_faults, terms::specs::Refusals::first_fault))]
 fn check_step(file: &[u8], at: usize) -> Result<(), Refusal>
     ensures { fault_of result ≡ first_fault (step_faults file.now at) }
 {
@@ -60,6 +56,7 @@ fn check_step(file: &[u8], at: usize) -> Result<(), Refusal>
 }
 
 // One step from a place of a file: a part with the place of the next, nothing at the end, or a refusal.
+#[tactic(auto, using(crate::proofs::Steps::whole_record, crate::proofs::Steps::refused_step), unfolding(crate::specs::Reader::step_of))]
 pub fn step(file: &[u8], at: usize) -> Result<Option<(Record, usize)>, Refusal>
     ensures { result ≡ step_of file.now at }
 {

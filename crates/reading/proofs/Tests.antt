@@ -1,5 +1,5 @@
 -- What the tests of the reading tell: whether a piece reaches a total, whether a gap may stop. Assumes nothing.
-use mathlib.Core.Path.{◌≡◌, sym}
+use mathlib.Core.Path.{◌≡◌, refl, sym}
 use mathlib.Core.List.{List}
 use mathlib.Core.Logic.{inl, inr, ⊎_elim}
 use Prim.Native.Nat.{ℕ, ◌+◌, ◌*◌, ◌≤◌, ◌<◌}
@@ -7,7 +7,7 @@ use native.Mathlib.Omega.{arith}
 use lib.Dec.{eqb}
 use lib.ListN.{get_or}
 use Rattle.std.proofs.Common.{Option, Some, None}
-use Rattle.std.specs.Option.{is_some}
+use Rattle.std.specs.Option.{is_some, IsSome, MatchOption}
 use Rattle.terms.specs.Tells.{Tells}
 use Rattle.terms.proofs.Told.{tells_iff, tells_eqb}
 use Rattle.tilings.specs.Tilings.{Board, Least, Entry}
@@ -57,3 +57,8 @@ module _ (B : Board) (i q v L : ℕ) {u : ℕ} (e : Entry B (i + L) q u) where
 -- A gap that stops lies within the letters.
 pub stop_inside : {B : Board} {i q v M : ℕ} → Stops B i q v M → i + M ≤ B.size
 stop_inside s = omega (arith, least_small s.least)
+
+-- Where something must be found, it is.
+pub some_found : (P : Type 0) (Q : ℕ → Type 0) (r : Option ℕ) → MatchOption r P Q → (P → ⊥) → IsSome r
+some_found P Q (Some x) f bad = refl
+some_found P Q None f bad = absurd (bad f)

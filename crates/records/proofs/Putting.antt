@@ -1,9 +1,11 @@
 -- The part records, stored one after the other. Assumes nothing.
 use mathlib.Core.Path.{◌≡◌, refl, sym, ap, ap₂, ◌∙◌, subst}
+use mathlib.Core.Bool.{true, false}
 use mathlib.Core.List.{List, [], ◌∷◌, ◌++◌, map, append-nil, append_assoc}
 use Prim.Native.Nat.{ℕ, suc, ◌+◌, ◌*◌, ◌/◌, ◌%◌, ◌≤◌, ◌<◌}
 use native.Mathlib.Omega.{arith}
 use native.Mathlib.Numerals.{add-one}
+use lib.Dec.{eqb}
 use lib.ListN.{length, get_or, take, drop, length-append, drop_of_length-le}
 use lib.Seq.{take_at, drop-cons, drop-drop, drop-append-add}
 use Rattle.terms.specs.Texts.{Text}
@@ -19,21 +21,21 @@ use Rattle.records.specs.Work.{Fit, Writable}
 abbrev pub Put : Text → ℕ → Part → ℕ → List ℕ → List ℕ → ℕ → Type 0
 Put x i q at l l' r = (r ≡ i + length_of q) × (l' ≡ take at l ++ record_of x i q ++ drop (at + record_size) l)
 
-module _ (x : Text) (c i : ℕ) (fit : Fit x i (decode c)) where
-  pub fit_piece : c % 2 ≡ 0 → Fit x i (piece (c / 2))
-  fit_piece e = subst (Fit x i) (decode_even c e) fit
+pub code_length : (c : ℕ) → length_of (decode c) ≡ c / 2
+unfolding decode
+code_length c = elim (eqb (c % 2) 0) as (λ b. length_of (elim b [ true ↦ piece (c / 2) | false ↦ gap (c / 2) ]) ≡ c / 2) [ true ↦ refl | false ↦ refl ]
 
-  pub fit_gap : (c % 2 ≡ 0 → ⊥) → Fit x i (gap (c / 2))
-  fit_gap n = subst (Fit x i) (decode_odd c n) fit
+-- The part numbered c, from place i, its length len, with t for tag and error count.
+module _ (x : Text) (c i len : ℕ) (e : len ≡ c / 2) where
+  even : c % 2 ≡ 0 → decode c ≡ piece len
+  even h = decode_even c h ∙ ap piece (sym e)
 
-  module _ (at : ℕ) (l l' : List ℕ) where
-    pub put_piece : c % 2 ≡ 0 → (e : ℕ) → e ≡ error_count x.letters x.map i (c / 2)
-        → l' ≡ take at l ++ (80 ∷ e ∷ i / 256 ∷ i % 256 ∷ c / 2 / 256 ∷ c / 2 % 256 ∷ []) ++ drop (at + 6) l → Put x i (decode c) at l l' (i + c / 2)
-    put_piece h e q w = rw (decode_even c h, ← q) (refl, w)
+  module _ (t : ℕ × ℕ) (b : List ℕ) (made : b ≡ t.0 ∷ t.1 ∷ i / 256 ∷ i % 256 ∷ len / 256 ∷ len % 256 ∷ []) where
+    pub bytes_piece : c % 2 ≡ 0 → (u : ℕ) → u ≡ error_count x.letters x.map i len → t ≡ (80, u) → b ≡ record_of x i (decode c)
+    bytes_piece h u k q = rw (even h, made, q, k) refl
 
-    pub put_gap : (c % 2 ≡ 0 → ⊥)
-        → l' ≡ take at l ++ (71 ∷ 0 ∷ i / 256 ∷ i % 256 ∷ c / 2 / 256 ∷ c / 2 % 256 ∷ []) ++ drop (at + 6) l → Put x i (decode c) at l l' (i + c / 2)
-    put_gap n w = rw (decode_odd c n) (refl, w)
+    pub bytes_gap : (c % 2 ≡ 0 → ⊥) → t ≡ (71, 0) → b ≡ record_of x i (decode c)
+    bytes_gap n q = rw (decode_odd c n, made, q, e) refl
 
 -- The first k records are stored; i is the place of the next part.
 pub record Putting (x : Text) (codes : List ℕ) (room₀ : List ℕ) (room : List ℕ) (k i : ℕ) : Type 0 where

@@ -14,6 +14,7 @@ records_length x i [] = refl
 records_length x i (p ∷ ps) =
     let h : length (records_from x (i + length_of p) ps) ≡ record_size * length ps = records_length x (i + length_of p) ps in omega arith
 
+-- so `put_parts` promises the same with whatever alphabet it is lent
 pub records_same : (s f y z : List ℕ) (i : ℕ) (ps : List Part) → records_from (text s f y) i ps ≡ records_from (text s f z) i ps
 records_same s f y z i [] = refl
 records_same s f y z i (piece L ∷ ps) = ap (λ (b : List ℕ). record_of (text s f z) i (piece L) ++ b) (records_same s f y z (i + L) ps)

@@ -1,19 +1,17 @@
 -- The lines read off the records of a tiling are its part lines. Assumes nothing.
-use mathlib.Core.Path.{◌≡◌, refl, sym, ap, ap₂, ◌∙◌, subst}
+use mathlib.Core.Path.{◌≡◌, refl, sym, ap, ap₂, ◌∙◌}
 use mathlib.Core.List.{List, [], ◌∷◌, ◌++◌, append_assoc, append-nil}
-use Prim.Native.Nat.{ℕ, zero, suc, ◌+◌, ◌*◌, ◌/◌, ◌%◌, ◌≤◌}
+use Prim.Native.Nat.{ℕ, zero, suc, ◌+◌, ◌*◌, ◌/◌, ◌%◌, ◌≤◌, ◌<◌}
 use native.Mathlib.Omega.{arith}
-use lib.ListN.{length, get_or}
-use lib.Seq.{get_or-append-add}
+use Rattle.std.proofs.Math.Nat.{add-zero}
+use lib.ListN.{length, get_or, get_or-append, length-append, drop}
+use lib.Seq.{get_or-append-add, drop-append_seam}
+use Rattle.std.proofs.lemmas.List.{length-drop, get_or-drop, drop-drop}
 use Rattle.terms.specs.Texts.{Text}
 use Rattle.tilings.specs.Tilings.{Part}
 use Rattle.tilings.specs.Laws.{length_of}
 use Rattle.records.specs.Records.{tag_of, errors_of, records_from}
-use Rattle.reader.specs.Reader.{record_at}
-use Rattle.reader.specs.declared.Record.{Record}
 use Rattle.printing.specs.Printing.{printed}
-use Rattle.printing.specs.Pages.{PutOn}
-use Rattle.printing.specs.declared.Page.{Page}
 use Rattle.replies.specs.Replies.{part_lines}
 use Rattle.replies.specs.Work.{record_line, record_lines}
 
@@ -35,21 +33,27 @@ module _ (a b c d e f : ℕ) (room : List ℕ) where
       ap₂ (λ (y z : List ℕ). y ++ z) (behind k) (later (6 * k) (6 * suc k) (omega arith))
       ∙ append_assoc (record_line (a ∷ b ∷ c ∷ d ∷ e ∷ f ∷ room) 0) (record_lines room k) (record_line room (6 * k))
 
-pub lines_of_records : (x : Text) (i : ℕ) (ps : List Part) (rest : List ℕ) → record_lines (records_from x i ps ++ rest) (length ps) ≡ part_lines x i ps
-lines_of_records x i [] rest = refl
-lines_of_records x i (p ∷ ps) rest =
+pub lines_of_records : (x : Text) (i : ℕ) (ps : List Part) → record_lines (records_from x i ps) (length ps) ≡ part_lines x i ps
+lines_of_records x i [] = refl
+lines_of_records x i (p ∷ ps) =
     let start : i / 256 * 256 + i % 256 ≡ i = omega arith in
     let long : length_of p / 256 * 256 + length_of p % 256 ≡ length_of p = omega arith in
-    behind (tag_of p) (errors_of x i p) (i / 256) (i % 256) (length_of p / 256) (length_of p % 256) (records_from x (i + length_of p) ps ++ rest) (length ps)
+    behind (tag_of p) (errors_of x i p) (i / 256) (i % 256) (length_of p / 256) (length_of p % 256) (records_from x (i + length_of p) ps) (length ps)
     ∙ ap₂ (λ (y z : List ℕ). y ++ z)
     (ap₂ (λ (m n : ℕ). printed (tag_of p) (m ∷ n ∷ errors_of x i p ∷ [])) start long)
-    (lines_of_records x (i + length_of p) ps rest)
+    (lines_of_records x (i + length_of p) ps)
 
-module _ {page page' : Page} where
-  -- the line of a record that was read
-  pub record_line_lem : (room : List ℕ) (i : ℕ) (f : Record) → PutOn page (printed f.tag (f.start ∷ f.length ∷ f.errors ∷ [])) page' → f ≡ record_at room i → PutOn page (record_line room i) page'
-  record_line_lem room i f p e = subst (λ (z : Record). PutOn page (printed z.tag (z.start ∷ z.length ∷ z.errors ∷ [])) page') e p
-
-  -- all lines, where k has reached the number of parts
-  pub all_lines : (room : List ℕ) (k parts : ℕ) → PutOn page (record_lines room k) page' → k ≤ parts → parts ≤ k → PutOn page (record_lines room parts) page'
-  all_lines room k parts p h g = let e : k ≡ parts = omega arith in rw e at p
+-- six bytes that come next are the next record, and behind them the others come
+pub next_record : (room bytes rest : List ℕ) (k : ℕ) → bytes ++ rest ≡ drop (6 * k) room → length bytes ≡ 6
+    → (6 * suc k ≤ length room) × (rest ≡ drop (6 * suc k) room) × (record_line bytes 0 ≡ record_line room (6 * k))
+next_record room bytes rest k e s =
+    let long = simp (length-append, length-drop, s) at (ap length e) in
+    let more : 6 * suc k ≤ length room = omega arith in
+    let at : (j : ℕ) → j < 6 → get_or bytes j 0 ≡ get_or room (6 * k + j) 0 =
+    λ j h. sym (get_or-append bytes rest 0 j (omega arith)) ∙ (ap (λ (l : List ℕ). get_or l j 0) e ∙ get_or-drop (6 * k) room j 0) in
+    let behind : drop 6 (bytes ++ rest) ≡ rest = rw (← s) (drop-append_seam bytes rest) in
+    let six : 6 * k + 6 ≡ 6 * suc k = omega arith in (
+      more,
+      sym behind ∙ (ap (drop 6) e ∙ (drop-drop 6 (6 * k) room ∙ ap (λ (n : ℕ). drop n room) six)),
+      rw (at 0 (omega arith), at 1 (omega arith), at 2 (omega arith), at 3 (omega arith), at 4 (omega arith), at 5 (omega arith)) (simp add-zero),
+    )

@@ -1,7 +1,7 @@
 // The text of every reply, put into a lent room.
 #![tactic(auto)]
 
-ghost use Rattle.std.specs.Prelude.{◌≡◌, [], ◌∷◌, ◌+◌, ◌*◌, ◌≤◌, length, Ok};
+ghost use Rattle.std.specs.Prelude.{◌≡◌, [], ◌∷◌, ◌/◌, ◌≤◌, length, Ok};
 ghost use Rattle.records.specs.Records.{record_size};
 ghost use Rattle.printing.specs.Printing.{Put, printed};
 ghost use Rattle.printing.specs.Pages.{PutOn};
@@ -20,8 +20,7 @@ pub fn put_refusal(out: &mut [u8], number: usize) -> usize
     ensures { Put out.old 0 (refusal_text number) result out.new }
 {
     let mut page = Page { room: out, at: 0 };
-    let numbers = [number];
-    page.put_line(b'!', &numbers);
+    page.put_line(b'!', &[number]);
     page.at
 }
 
@@ -29,16 +28,14 @@ pub fn put_refusal(out: &mut [u8], number: usize) -> usize
 fn put_shift(page: &mut Page<'_>, mark: u8, place: usize, byte: u8, n: usize, standing: usize)
     ensures { PutOn page.old (printed mark (place ∷ byte ∷ n ∷ standing ∷ [])) page.new }
 {
-    let numbers = [place, byte as usize, n, standing];
-    page.put_line(mark, &numbers);
+    page.put_line(mark, &[place, usize::from(byte), n, standing]);
 }
 
 // The line of a limits call: all four limits, how many changes stand.
 fn put_limits(page: &mut Page<'_>, mark: u8, limits: Limits, standing: usize)
     ensures { PutOn page.old (printed mark (limits.kind ∷ limits.m ∷ limits.g ∷ limits.d ∷ standing ∷ [])) page.new }
 {
-    let numbers = [limits.kind, limits.m, limits.g, limits.d, standing];
-    page.put_line(mark, &numbers);
+    page.put_line(mark, &[limits.kind, limits.m, limits.g, limits.d, standing]);
 }
 
 // The line of what an accepted call says.
@@ -46,19 +43,13 @@ fn put_accepted(page: &mut Page<'_>, said: Said)
     ensures { PutOn page.old (said_text (Ok said)) page.new }
 {
     match said {
-        Said::Opened { n } => {
-            let numbers = [n, 0];
-            page.put_line(b'O', &numbers)
-        }
+        Said::Opened { n } => page.put_line(b'O', &[n, 0]),
         Said::Letter {
             place,
             old,
             new,
             standing,
-        } => {
-            let numbers = [place, old as usize, new as usize, standing];
-            page.put_line(b'L', &numbers)
-        }
+        } => page.put_line(b'L', &[place, usize::from(old), usize::from(new), standing]),
         Said::PutIn {
             place,
             byte,
@@ -93,31 +84,29 @@ pub fn put_restored(page: &mut Page<'_>, letter: u8, said: Result<Said, Refusal>
     match said {
         Ok(said) => {
             page.put_byte(letter);
-            page.put_byte(32);
+            page.put_byte(b' ');
             put_accepted(page, said)
         }
         Err(_) => put_said(page, said),
     }
 }
 
-// The line of the record at a place of the room.
-fn put_record_line(page: &mut Page<'_>, room: &[u8], i: usize)
-    requires { i + record_size ≤ length room.now }
-    ensures { PutOn page.old (record_line room.now i) page.new }
+// The line of the record that these bytes begin with.
+fn put_record_line(page: &mut Page<'_>, bytes: &[u8])
+    requires { record_size ≤ length bytes.now }
+    ensures { PutOn page.old (record_line bytes.now 0) page.new }
 {
-    let found = record_at(room, i);
-    let errors = found.errors as usize;
-    let numbers = [found.start, found.length, errors];
-    page.put_line(found.tag, &numbers);
+    let found = record_at(bytes, 0);
+    let errors = usize::from(found.errors);
+    page.put_line(found.tag, &[found.start, found.length, errors]);
 }
 
-// The lines of the first records of a room.
-pub fn put_record_lines(page: &mut Page<'_>, room: &[u8], parts: usize)
-    requires at_in_bounds { page.old.at ≤ length page.old.room.now }
-    requires parts_in_bounds { record_size * parts ≤ length room.now }
-    ensures { PutOn page.old (record_lines room.now parts) page.new }
+// The lines of a room's records. What stands behind the last whole record is passed over.
+pub fn put_record_lines(page: &mut Page<'_>, records: &[u8])
+    requires { page.old.at ≤ length page.old.room.now }
+    ensures { PutOn page.old (record_lines records.now (length records.now / record_size)) page.new }
 {
-    for k in 0..parts {
-        put_record_line(page, room, SIZE * k);
+    for bytes in records.chunks_exact(SIZE) {
+        put_record_line(page, bytes);
     }
 }

@@ -1,5 +1,5 @@
 -- Laws that belong to no one function.
-pub mod Rests
+pub mod Records
 pub mod Following
 pub mod Judging
 pub mod Laws

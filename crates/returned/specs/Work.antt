@@ -1,5 +1,5 @@
 -- Working notions: what the helpers say. No promise to a caller rests on reading them.
-use Rattle.std.specs.Prelude.{◌≡◌, Bool, true, false, List, ℕ, ◌+◌, ◌*◌, ◌<◌, ◌≤◌, length, drop}
+use Rattle.std.specs.Prelude.{◌≡◌, Bool, true, false, List, ℕ, ◌+◌, ◌*◌, ◌<◌, ◌≤◌, length}
 use Rattle.terms.specs.Tells.{Tells}
 use Rattle.terms.specs.Texts.{Text, size}
 use Rattle.terms.specs.declared.limits.Limits.{Limits}
@@ -22,13 +22,13 @@ unfoldable pub Judged : Bool → Text → Limits → List ℕ → Type 0
 Judged true x l file = AllRight x l file
 Judged false x l file = SomeWrong x l file
 
--- What is left of a file from a place on is a tiling from i on, q gaps being used up; where the last part was a gap (b is true), not with a gap first.
-pub record Rest (x : Text) (l : Limits) (file : List ℕ) (at i q : ℕ) (b : Bool) : Type 0 where
+-- What is left of a file is a tiling from i on, q gaps being used up; where the last part was a gap (b is true), not with a gap first.
+pub record Rest (x : Text) (l : Limits) (left : List ℕ) (i q : ℕ) (b : Bool) : Type 0 where
   pub parts : List Part
   pub tiles : Tiles (board x l) i parts
   pub few : gaps parts + q ≤ l.g
   pub apart : b ≡ true → GapFirst parts → ⊥
-  pub written : drop at file ≡ records_from x i parts
+  pub written : left ≡ records_from x i parts
 
 -- Of right records the answer says whether they are a permitted tiling, whatever the letters: n of them, and at most g gaps.
 abbrev pub Decides : Bool → ℕ → ℕ → List ℕ → Type 0

@@ -9,12 +9,11 @@ ghost use Rattle.returned.specs.Returned.{AgreeReply};
 ghost use Rattle.returned.specs.Work.{Judged, Decides};
 
 use judged::Judge;
-use reader::{GAP, record_at};
-use records::SIZE;
+use reader::record_at;
+use records::{GAP, SIZE};
 use terms::limits::Limits;
 use terms::refusal::Refusal;
 use texts::Text;
-use texts::flags::own_partner;
 
 // Whether every record is a right part.
 fn all_right(text: Text, limits: Limits, file: &[u8]) -> bool
@@ -24,20 +23,15 @@ fn all_right(text: Text, limits: Limits, file: &[u8]) -> bool
     ensures { Judged result (text_of text.entry) limits file.now }
 {
     let judge = Judge {
-        letters: text.letters,
-        map: text.map,
+        text,
         limits,
-        own: own_partner(text.map, text.alphabet),
+        own: text.own_partner(),
     };
-    for k in 0..file.len() / SIZE {
-        if !judge.right(file, SIZE * k) {
-            return false;
-        }
-    }
-    true
+    file.chunks_exact(SIZE).all(|record| judge.right(record, 0))
 }
 
 // Whether right records tile n letters with at most g gaps: each begins where the last ended, and no gap follows a gap.
+#[tactic(auto, using(crate::proofs::Following::following))]
 fn tiles(file: &[u8], n: usize, g: usize) -> bool
     requires { length file.now % 6 ≡ 0 }
     ensures { Decides result n g file.now }
@@ -45,8 +39,8 @@ fn tiles(file: &[u8], n: usize, g: usize) -> bool
     let mut i = 0;
     let mut gaps = 0;
     let mut behind = false;
-    for k in 0..file.len() / SIZE {
-        let found = record_at(file, SIZE * k);
+    for record in file.chunks_exact(SIZE) {
+        let found = record_at(record, 0);
         if found.start != i {
             return false;
         }
@@ -62,6 +56,7 @@ fn tiles(file: &[u8], n: usize, g: usize) -> bool
 }
 
 // Whether returned records are a permitted tiling: the first refusal where they are not.
+#[tactic(auto, using(crate::proofs::Judging::replies), unfolding(crate::specs::Work::Judged, terms::specs::Tells::Tells))]
 pub fn agree(text: Text, limits: Limits, file: &[u8]) -> Result<(), Refusal>
     ensures { AgreeReply (text_of text.entry) limits file.now (fault_of result) }
 {

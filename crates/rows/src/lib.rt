@@ -1,45 +1,47 @@
 // Rows of the table: numbers side by side, one for each number of gaps. Each function is one pass that can be vectorised.
+// The other row goes by index: over `iter_mut().zip(below)` a proof knows how many numbers are written and none of them.
 #![tactic(auto)]
 
-ghost use Rattle.std.specs.Prelude.{◌+◌, ◌*◌, ◌≤◌, ◌<◌, length};
+ghost use Rattle.std.specs.Prelude.{◌+◌, ◌≤◌, length};
 ghost use Rattle.rows.specs.Rows.{Cleared, Lowered, Moved, Stored};
 
-// Lowers the first g + 1 numbers of the row to those of the table from `from` on.
-pub fn lower(row: &mut [u16], g: usize, t: &[u16], from: usize)
-    requires { (g ≤ 15) × (g < length row.old) × (from ≤ 16016) × (from + g < length t.now) }
-    ensures { Lowered g row.old t.now from row.new }
+// No tiling: more than any total. A number and no Option: the table that is lent holds u16 numbers, and `Entry` says what each means.
+pub const NO_TILING: u16 = u16::MAX;
+
+// Lowers each number of the row to the one below it.
+pub fn lower(row: &mut [u16], below: &[u16])
+    requires { length row.old ≤ length below.now }
+    ensures { Lowered row.old below.now row.new }
 {
-    for (q, x) in row[..=g].iter_mut().enumerate() {
-        *x = (*x).min(t[from + q]);
+    for (q, x) in row.iter_mut().enumerate() {
+        *x = (*x).min(below[q]);
     }
 }
 
-// No tiling yet: 65535 throughout. A number and no Option: `Entry` says what the lent table holds.
-pub fn clear(row: &mut [u16], g: usize)
-    requires { (g ≤ 15) × (g < length row.old) }
-    ensures { Cleared g row.old row.new }
+// No tiling yet.
+pub fn clear(row: &mut [u16])
+    ensures { Cleared row.new }
 {
-    row[..=g].fill(65535);
+    row.fill(NO_TILING);
 }
 
-// The gap-first totals of a place, by those a letter later and the row there, from index `from` on: one step an entry.
-// None, 65535, is the greatest number: it is no lesser, and stays.
-pub fn gap_row(gaps: &mut [u16], g: usize, t: &[u16], from: usize)
-    requires { (g ≤ 15) × (g < length gaps.old) × (from ≤ 16016) × (from + g ≤ length t.now) }
-    ensures { Moved g gaps.old t.now from gaps.new }
+// The gap-first totals of a place, by those a letter later and the row there.
+// NO_TILING is the greatest number: it is no lesser, and stays.
+pub fn gap_row(gaps: &mut [u16], below: &[u16])
+    requires { (1 ≤ length gaps.old) × (length gaps.old ≤ length below.now + 1) }
+    ensures { Moved gaps.old below.now gaps.new }
 {
-    for (q, x) in gaps[1..=g].iter_mut().enumerate() {
-        *x = (*x).min(t[from + q]).saturating_add(1);
+    for (q, x) in gaps[1..].iter_mut().enumerate() {
+        *x = (*x).min(below[q]).saturating_add(1);
     }
 }
 
-// Row i of the table: the lesser of the two rows.
-pub fn store_row(row: &[u16], gaps: &[u16], g: usize, i: usize, t: &mut [u16])
-    requires { (g ≤ 15) × (i ≤ 1000) × (g < length row.now) × (g < length gaps.now) × (i * (g + 1) + g < length t.old) }
-    ensures { Stored g i row.now gaps.now t.old t.new }
+// The lesser of the two rows.
+pub fn store_row(row: &[u16], gaps: &[u16], to: &mut [u16])
+    requires { (length to.old ≤ length row.now) × (length to.old ≤ length gaps.now) }
+    ensures { Stored row.now gaps.now to.new }
 {
-    let from = i * (g + 1);
-    for (q, x) in t[from..=from + g].iter_mut().enumerate() {
+    for (q, x) in to.iter_mut().enumerate() {
         *x = row[q].min(gaps[q]);
     }
 }

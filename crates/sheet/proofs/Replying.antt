@@ -6,12 +6,9 @@ use Prim.Native.Nat.{ℕ, suc, ◌-◌, ◌<◌}
 use native.Mathlib.Omega.{arith}
 use borrow.Author.Tests.{eq-eqb, ne_eqb, eqb-true, eqb-false, leb-false}
 use lib.Dec.{leb, eqb}
-use lib.ListN.{length}
 use Rattle.std.specs.Prelude.{Result, Ok, Err}
 use Rattle.terms.specs.Refusals.{refusal_number, first_fault}
 use Rattle.terms.specs.Limits.{kind_faults, lengths_faults}
-use Rattle.terms.specs.Texts.{Text, opening_faults}
-use Rattle.terms.specs.declared.limits.Limits.{Limits}
 use Rattle.terms.specs.declared.refusal.Refusal.{Refusal}
 use Rattle.terms.proofs.Named.{not_zero, refusal_named, AllNamed, named_append, fault_named}
 use Rattle.terms.proofs.Passed.{passed, not_off}
@@ -27,12 +24,9 @@ use Rattle.kept.specs.Work.{popping}
 use Rattle.kept.specs.declared.Popped.TheVariants.{Change as PoppedChange}
 use Rattle.kept.proofs.Popping.{popped_is}
 use Rattle.kept.proofs.Moving.{newest_back, next_done}
-use Rattle.places.specs.Places.{padded}
 use Rattle.sheet.specs.Bounds.{in_bounds}
-use Rattle.sheet.specs.Calls.{number_of, values_of, refusing, answered, CallReply, applied, changed, change_faults, newest_of, last_taken, take_back_faults, put_again_faults, opened, blank_sheet, open_call}
-use Rattle.sheet.specs.Work.{unchanged_of}
+use Rattle.sheet.specs.Calls.{number_of, values_of, refusing, answered, CallReply, applied, changed, change_faults, newest_of, last_taken, take_back_faults, put_again_faults}
 use Rattle.sheet.specs.declared.Said.{Said}
-use Rattle.sheet.specs.declared.Said.TheVariants.{Opened}
 use Rattle.sheet.specs.declared.Sheet.{Sheet}
 use Rattle.sheet.specs.declared.Reply.{Reply}
 use Rattle.sheet.proofs.Within.{bounds}
@@ -170,15 +164,6 @@ module _ (s : Sheet) (c : Change) where
 
   pub again_is : popping s.taken (last_taken s) ≡ PoppedChange c → done_of c ≡ done_of (last_taken s)
   again_is p = ap done_of (sym (popped_is s.taken (last_taken s) c p).0)
-
--- An accepted opening.
-pub open_reply : (x : Text) (l : Limits) (letters map alphabet : List ℕ) (s : Sheet) → 0 ≡ first_fault (opening_faults x l)
-    → letters ≡ padded x.letters → map ≡ x.map → alphabet ≡ x.alphabet → s ≡ unchanged_of letters (length x.letters) map l alphabet
-    → CallReply (opening_faults x l) (open_call x l) (record { sheet = s; said = Ok (Opened (length x.letters)) })
-unfolding opened
-open_reply x l letters map alphabet s e p q y u =
-    call_accepted (opening_faults x l) blank_sheet (record { sheet = opened x l; said = Ok (Opened (length x.letters)) }) e _
-    (ap (λ (t : Sheet). record { sheet = t; said = Ok (Opened (length x.letters)) }) (u ∙ (λ i. unchanged_of (p i) (length x.letters) (q i) l (y i)))) refl
 
 -- Each fault of an edit, and of a call for a change, names a refusal.
 pub edit_named : (n : ℕ) (z : List ℕ) (e : Edit) → AllNamed (edit_faults n z e)

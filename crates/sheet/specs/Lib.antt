@@ -2,4 +2,3 @@
 pub mod Bounds
 pub mod Calls
 pub mod Question
-pub mod Work

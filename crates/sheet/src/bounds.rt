@@ -3,24 +3,17 @@ ghost use Rattle.std.specs.Prelude.{◌≡◌};
 ghost use Rattle.sheet.specs.Bounds.{in_bounds};
 
 use crate::Sheet;
-use places::check_opening;
 
 impl Sheet {
-    // Whether the sheet keeps its bounds: what refusal 24 denies.
+    // Whether an opening would accept what the sheet holds, and the kept changes are at most 64 that their calls would accept.
+    #[tactic(auto, using(terms::proofs::Named::erred, terms::proofs::Named::not_erred), unfolding(crate::specs::Bounds::in_bounds))]
     pub fn in_bounds(self) -> bool
         ensures { result ≡ in_bounds self }
     {
         if Sheet::LETTERS < self.n {
             return false;
         }
-        let opening = check_opening(
-            &self.letters,
-            self.n,
-            &self.map,
-            self.limits,
-            &self.alphabet,
-        );
-        if opening.is_err() {
+        if self.places().check_opening(self.limits).is_err() {
             return false;
         }
         kept::accepted(

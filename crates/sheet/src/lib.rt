@@ -11,11 +11,10 @@ ghost use Rattle.texts.specs.Lent.{text_of};
 ghost use Rattle.changes.specs.Work.{fits};
 ghost use Rattle.sheet.specs.Calls.{CallReply, said_of, applied, changed, change_faults, change_call, letter_faults, put_in_faults, take_out_faults, kind_call_faults, lengths_call_faults, take_back_faults, put_again_faults, letter_call, put_in_call, take_out_call, kind_call, lengths_call, take_back_call, put_again_call, blank_sheet, open_call};
 ghost use Rattle.sheet.specs.Question.{SheetReply};
-ghost use Rattle.sheet.specs.Work.{unchanged_of};
 
 use changes::{Change, Edit};
 use kept::Popped;
-use places::{padded, tile_first};
+use places::{Places, padded};
 use questions::{Figures, Untiled};
 use shifts::{edited, replaced};
 use terms::limits::Limits;
@@ -69,18 +68,8 @@ impl Said {
                 new,
                 standing,
             },
-            Change::Kind {
-                old_kind: _,
-                old_d: _,
-                kind: _,
-                d: _,
-            } => Said::Kind { now, standing },
-            Change::Lengths {
-                old_m: _,
-                old_g: _,
-                m: _,
-                g: _,
-            } => Said::Lengths { now, standing },
+            Change::Kind { .. } => Said::Kind { now, standing },
+            Change::Lengths { .. } => Said::Lengths { now, standing },
             Change::PutIn { place, byte } => Said::PutIn {
                 place,
                 byte,
@@ -97,6 +86,8 @@ impl Said {
     }
 }
 
+// Letters stand with n, and kept with two counts: a sheet is fixed memory with no heap, and the definitions speak of all its places.
+// No invariant: `in_bounds`, and refusal 24, are promised of any sheet handed in.
 // kept[0..standing] stand, oldest first; kept[standing..standing + taken] are taken back, the next to put again first.
 #[derive(Clone, Copy)]
 pub struct Sheet {
@@ -122,6 +113,19 @@ impl Sheet {
 
     pub const CHANGES: usize = terms::CHANGES;
 
+    // The sheet's places, lent.
+    fn places(&self) -> Places<'_>
+        requires { self.now.n ≤ 1000 }
+        ensures { (result.letters.now ≡ self.entry.now.letters) × (result.n ≡ self.entry.now.n) × (result.map.now ≡ self.entry.now.map) × (result.alphabet.now ≡ self.entry.now.alphabet) }
+    {
+        Places {
+            letters: &self.letters,
+            n: self.n,
+            map: &self.map,
+            alphabet: &self.alphabet,
+        }
+    }
+
     // The sheet as it stands, with a refusal.
     fn refused(self, refusal: Refusal) -> Reply
         ensures { result ≡ record { sheet = self; said = Err refusal } }
@@ -130,15 +134,10 @@ impl Sheet {
         Reply { sheet: self, said }
     }
 
-    // A sheet with no changes, over letters in their places.
-    fn unchanged(
-        letters: [u8; Sheet::LETTERS],
-        n: usize,
-        map: [u8; 256],
-        limits: Limits,
-        alphabet: [u8; 256],
-    ) -> Sheet
-        ensures { result ≡ unchanged_of letters n map limits alphabet }
+    // No letters, the plain map, all 256 bytes, kind 1, m 1, g 0, d 0, no changes.
+    #[tactic(auto, unfolding(crate::specs::Calls::blank_sheet, crate::specs::Calls::opened, places::specs::Places::padded_to))]
+    pub fn blank() -> Sheet
+        ensures { result ≡ blank_sheet }
     {
         let none = Change::Letter {
             place: 0,
@@ -146,54 +145,46 @@ impl Sheet {
             new: 0,
         };
         Sheet {
-            letters,
-            n,
-            map,
-            alphabet,
-            limits,
+            letters: [0; Sheet::LETTERS],
+            n: 0,
+            map: maps::plain(),
+            alphabet: alphabets::all(),
+            limits: Limits {
+                kind: 1,
+                m: 1,
+                g: 0,
+                d: 0,
+            },
             kept: [none; Sheet::CHANGES],
             standing: 0,
             taken: 0,
         }
     }
 
-    // No letters, the plain map, all 256 bytes, kind 1, m 1, g 0, d 0, no changes: what a refused opening gives.
-    pub fn blank() -> Sheet
-        ensures { result ≡ blank_sheet }
-    {
-        let limits = Limits {
-            kind: 1,
-            m: 1,
-            g: 0,
-            d: 0,
-        };
-        Sheet::unchanged(
-            [0u8; Sheet::LETTERS],
-            0,
-            maps::plain(),
-            limits,
-            alphabets::all(),
-        )
-    }
-
-    // Opens a sheet: copies string, map, limits and alphabet.
+    // Opens a sheet: copies string, map, limits and alphabet. A refused opening gives the blank sheet.
+    #[tactic(auto, using(terms::proofs::Passed::sound_opening, crate::proofs::Replying::call_accepted), unfolding(crate::specs::Calls::opened, crate::specs::Calls::blank_sheet))]
     pub fn open(text: Text, limits: Limits) -> Reply
         ensures { CallReply (opening_faults (text_of text.entry) limits) (open_call (text_of text.entry) limits) result }
     {
         if let Err(refusal) = text.check_opening(limits) {
             return Sheet::blank().refused(refusal);
         }
-        let letters = padded(text.letters);
-        let f = padded(text.map);
-        let z = padded(text.alphabet);
         let n = text.letters.len();
         Reply {
-            sheet: Sheet::unchanged(letters, n, f, limits, z),
+            sheet: Sheet {
+                letters: padded(text.letters),
+                n,
+                map: padded(text.map),
+                alphabet: padded(text.alphabet),
+                limits,
+                ..Sheet::blank()
+            },
             said: Ok(Said::Opened { n }),
         }
     }
 
     // Makes an edit, sets the counts, and says the edit back.
+    #[tactic(auto, using(shifts::proofs::Inside::fits_places), unfolding(crate::specs::Calls::applied))]
     fn apply(self, e: Edit, standing: usize, taken: usize) -> Reply
         requires { (self.n ≤ 1000) × (fits self.n e ≡ true) }
         ensures { result ≡ applied self e standing taken }
@@ -206,12 +197,14 @@ impl Sheet {
         let limits_after = e.limits_after(limits);
         let c = replaced(letters, limits, e);
         let said = Said::of(c, n_after, standing, limits_after);
-        let mut next = self;
-        next.letters = letters_after;
-        next.n = n_after;
-        next.limits = limits_after;
-        next.standing = standing;
-        next.taken = taken;
+        let next = Sheet {
+            letters: letters_after,
+            n: n_after,
+            limits: limits_after,
+            standing,
+            taken,
+            ..self
+        };
         Reply {
             sheet: next,
             said: Ok(said),
@@ -219,6 +212,7 @@ impl Sheet {
     }
 
     // Makes an edit, keeps it as the newest change, and empties the list of those taken back.
+    #[tactic(auto, using(shifts::proofs::Inside::fits_places), unfolding(crate::specs::Calls::applied, crate::specs::Calls::changed))]
     fn change(self, e: Edit) -> Reply
         requires { (self.n ≤ 1000) × (fits self.n e ≡ true) × (self.standing < 64) }
         ensures { result ≡ changed self e }
@@ -239,6 +233,7 @@ impl Sheet {
     }
 
     // The first refusal of a call for a change.
+    #[tactic(auto, using(terms::proofs::Named::not_zero, terms::proofs::Named::handed_on, crate::proofs::Replying::change_24, crate::proofs::Replying::change_own, crate::proofs::Replying::change_7, crate::proofs::Replying::change_0))]
     fn check_change(self, e: Edit) -> Result<(), Refusal>
         ensures { fault_of result ≡ first_fault (change_faults self e) }
     {
@@ -253,6 +248,7 @@ impl Sheet {
     }
 
     // Makes the change that an edit asks for, or refuses it: what every call for a change does.
+    #[tactic(auto, using(crate::proofs::Replying::call_accepted, crate::proofs::Replying::changed_accepted))]
     pub fn ask(self, e: Edit) -> Reply
         ensures { CallReply (change_faults self e) (change_call self e) result }
     {
@@ -298,7 +294,8 @@ impl Sheet {
     }
 
     // Takes the newest standing change back.
-    // No one function for this and put_again: what is popped, refused, made and counted all differ, and popping needs the bounds tested first.
+    // This and `put_again` are two functions: what is popped, refused, made and counted all differ, and popping needs the bounds tested first.
+    #[tactic(auto, using(crate::proofs::Within::few_changes, crate::proofs::Within::few_letters, crate::proofs::Replying::newest_fits))]
     pub fn take_back(self) -> Reply
         ensures { CallReply (take_back_faults self) (take_back_call self) result }
     {
@@ -312,6 +309,7 @@ impl Sheet {
     }
 
     // Puts the change that was taken back last again.
+    #[tactic(auto, using(crate::proofs::Within::few_changes, crate::proofs::Within::few_letters, crate::proofs::Replying::last_fits))]
     pub fn put_again(self) -> Reply
         ensures { CallReply (put_again_faults self) (put_again_call self) result }
     {
@@ -325,20 +323,13 @@ impl Sheet {
     }
 
     // The tiling question on the sheet's own letters, map, alphabet and limits; the sheet stays.
+    #[tactic(auto, using(crate::proofs::Within::few_letters))]
     pub fn question(self, table: &mut [u16], room: &mut [u8]) -> Result<Figures, Untiled>
         ensures { SheetReply self table.old table.new room.old room.new result }
     {
         if !self.in_bounds() {
             return Err(Untiled::Refused(Refusal::OutOfBounds));
         }
-        tile_first(
-            &self.letters,
-            self.n,
-            &self.map,
-            self.limits,
-            table,
-            room,
-            &self.alphabet,
-        )
+        self.places().tile(self.limits, table, room)
     }
 }

@@ -10,7 +10,7 @@ use changes::{Change, Edit};
 use terms::LETTERS;
 use terms::limits::Limits;
 
-// The array goes with n beside it, and no slice of the first n: a letter put in takes place n, and `letters_by` speaks of all 1,000 places.
+// The array goes with n beside it, and no slice of the first n: a letter put in takes place n, and `letters_by` speaks of all 1,000 places. What is asked of n differs from one function to the next.
 
 // The first n places with a byte put in before a place.
 fn put_in(letters: [u8; LETTERS], n: usize, place: usize, byte: u8) -> [u8; LETTERS]

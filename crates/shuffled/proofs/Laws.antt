@@ -1,16 +1,7 @@
 -- What an accepted fill may count on, and the laws for a reader. Assumes nothing.
-use mathlib.Core.Path.{◌≡◌, refl, sym, ap, ◌∙◌}
-use mathlib.Core.Bool.{true, not}
-use mathlib.Core.List.{List, [], ◌∷◌}
-use mathlib.Core.Logic.{⊎_elim}
-use Prim.Native.Nat.{ℕ, ◌+◌, ◌≤◌, ◌<◌}
-use native.Mathlib.Nat.{le_antisymm}
-use native.Mathlib.Omega.{arith}
-use borrow.Author.Tests.{ltb-false}
-use lib.Dec.{ltb}
-use lib.ListN.{length, get_or-eq_default}
-use Rattle.std.specs.Prelude.{Result, Ok, Err}
-use Rattle.terms.specs.Refusals.{first_fault, OneOf}
+use Rattle.std.proofs.Common.{◌≡◌, refl, sym, ap, ◌∙◌, ⊎_elim, true, not, List, [], ◌∷◌, ℕ, ◌≤◌, ◌<◌, le_antisymm, arith, ltb, ltb-false, length, Result, Ok, Err}
+use Rattle.std.proofs.Math.ListN.{get_or-eq_default}
+use Rattle.terms.specs.Refusals.{first_fault}
 use Rattle.terms.specs.declared.refusal.Refusal.{Refusal}
 use Rattle.terms.proofs.Named.{not_zero, same_refusal}
 use Rattle.terms.proofs.Order.{le_or_lt}
@@ -31,10 +22,6 @@ fill_sound s lent e =
     let c = passed 11 (ltb lent (length s)) [] (omega arith) b.1 in
     (ltb-false _ _ a.0, ltb-false _ _ c.0, not_off _ b.0)
 
-numbers_listed : (s : List ℕ) (lent : ℕ) → OneOf (first_fault (shuffled_faults s lent)) (0 ∷ 1 ∷ 20 ∷ 11 ∷ [])
-unfolding shuffled_faults
-numbers_listed s lent = fault_listed (shuffled_faults s lent)
-
 module _ (s before : List ℕ) where
   one_slice : (a a' : List ℕ) → Longests s before a → Longests s before a' → a ≡ a'
   one_slice a a' p q =
@@ -49,21 +36,15 @@ module _ (s before : List ℕ) where
 
   -- Letters of A to Z are bytes, and so is what stands for a place past the end.
   bytes : capitals s ≡ true → (k : ℕ) → letter s k < 256
-  bytes c k =
-      ⊎_elim
-      (λ (h : length s ≤ k). let e : letter s k ≡ 0 = get_or-eq_default s 0 h in omega arith)
-      (λ (h : k < length s). let w = capital_at s c k h in omega (arith, w.1))
-      (le_or_lt (length s) k)
+  bytes c k = ⊎_elim (λ h. omega (arith, get_or-eq_default s 0 h)) (λ h. omega (arith, (capital_at s c k h).1)) (le_or_lt (length s) k)
 
   pub shuffled_laws : ShuffledLaws s before
+  unfolding shuffled_faults
   shuffled_laws =
       record {
-        listed = λ after r p. rw p.number (numbers_listed s (length before));
+        listed = λ after r p. rw p.number (fault_listed (shuffled_faults s (length before)));
         one = one_reply;
         exact = λ after p a L x.
-            let f = fill_sound s (length before) (sym p.number) in
-            let w = exact_pass s (bytes f.2) a L x in
-            let i : a + L ≤ length s = w.inside in
-            let m : 1 ≤ L = w.some in
-            ((p.accepted refl).filled a (omega arith)).longest L w;
+            let w = exact_pass s (bytes (fill_sound s (length before) (sym p.number)).2) a L x in
+            ((p.accepted refl).filled a (omega (arith, w.some, w.inside))).longest L w;
       }

@@ -15,7 +15,6 @@ use crate::outward::walk;
 use terms::limits::ERRORS;
 use terms::refusal::Refusal;
 use texts::Text;
-use texts::flags::own_partner;
 
 // The number of centres of n letters.
 pub fn centre_count(n: usize) -> usize
@@ -26,14 +25,17 @@ pub fn centre_count(n: usize) -> usize
 }
 
 // The maximal lengths of all centres, for a string and a map that meet no refusal; later entries stay.
+// Not inlined: in its caller the walks share too few registers with the rest, and a question on all A of kind 2 costs 1.06 of the instructions.
+#[inline(never)]
 pub fn fill_lengths(text: Text, d: usize, out: &mut [u16])
     requires sound_text { SoundText (text_of text) }
     requires sizes { (d ≤ 15) × (centres (length text.letters.now) ≤ length out.old) }
     ensures { Lengths (text_of text.entry) d out.old out.new }
 {
-    let own = own_partner(text.map, text.alphabet);
-    for c in 0..centre_count(text.letters.len()) {
-        out[c] = walk(text.letters, text.map, d, c, own).length;
+    let own = text.own_partner();
+    let count = centre_count(text.letters.len());
+    for (c, to) in out[..count].iter_mut().enumerate() {
+        *to = walk(text, d, c, own).length;
     }
 }
 

@@ -1,11 +1,13 @@
 // The walk of one centre, from the middle outward.
 ghost use Rattle.std.specs.Prelude.{◌≡◌, not, ◌&&◌, ◌+◌, ◌-◌, ◌%◌, ◌≤◌, ◌<◌, eqb, length};
 ghost use Rattle.terms.specs.Passed.{EverySound};
+ghost use Rattle.texts.specs.Work.{Sized};
 ghost use Rattle.spans.specs.Palindromes.{centres, MaximalLength};
 ghost use Rattle.spans.specs.Stops.{Stops};
 ghost use Rattle.spans.specs.Work.{Own, Unbarred};
 
 use crate::pairs::differ;
+use texts::Text;
 
 // What stops a walk: the first pair that would exceed d, of which a middle letter is one with itself; an end of the string; or the bar.
 #[derive(Clone, Copy, Debug, PartialEq, Eq)]
@@ -37,18 +39,18 @@ fn reached(c: usize, a: usize, stop: Stop) -> Reach
 }
 
 // Outward from the middle of the centre c, until an end is met or the next pair would exceed d; for every alphabet that does not bar the centre.
-fn walk_out(s: &[u8], map: &[u8], d: usize, c: usize) -> Reach
-    requires { (length map.now ≡ 256) × (length s.now ≤ 1000) × (c < centres (length s.now)) × (d ≤ 15) }
-    ensures maximal { EverySound s.now map.now (Unbarred c) (λ x. MaximalLength x d c result.length) }
-    ensures stopped { EverySound s.now map.now (Unbarred c) (λ x. Stops x d c result.stop) }
+fn walk_out(text: Text, d: usize, c: usize) -> Reach
+    requires { Sized text × (c < centres (length text.letters.now)) × (d ≤ 15) }
+    ensures maximal { EverySound text.entry.letters.now text.entry.map.now (Unbarred c) (λ x. MaximalLength x d c result.length) }
+    ensures stopped { EverySound text.entry.letters.now text.entry.map.now (Unbarred c) (λ x. Stops x d c result.stop) }
 {
     let mut e = 0;
     for i in (0..c / 2 + 1).rev() {
         let j = c - i;
-        if s.len() <= j {
+        if text.letters.len() <= j {
             return reached(c, i + 1, Stop::End);
         }
-        e += differ(s, map, i, j);
+        e += differ(text, i, j);
         if d < e {
             return reached(c, i + 1, Stop::Pair { left: i, right: j });
         }
@@ -64,10 +66,11 @@ fn bars(c: usize, own: bool) -> bool
 }
 
 // The maximal length of the centre c and what stops it; `own` says whether the map has an own-partner letter within the alphabet.
-pub fn walk(s: &[u8], map: &[u8], d: usize, c: usize, own: bool) -> Reach
-    requires { (length map.now ≡ 256) × (length s.now ≤ 1000) × (c < centres (length s.now)) × (d ≤ 15) }
-    ensures maximal { EverySound s.now map.now (Own own) (λ x. MaximalLength x d c result.length) }
-    ensures stopped { EverySound s.now map.now (Own own) (λ x. Stops x d c result.stop) }
+// `own` stands beside the text since reckoning it takes 256 steps: once a question and not once a centre.
+pub fn walk(text: Text, d: usize, c: usize, own: bool) -> Reach
+    requires { Sized text × (c < centres (length text.letters.now)) × (d ≤ 15) }
+    ensures maximal { EverySound text.entry.letters.now text.entry.map.now (Own own) (λ x. MaximalLength x d c result.length) }
+    ensures stopped { EverySound text.entry.letters.now text.entry.map.now (Own own) (λ x. Stops x d c result.stop) }
 {
     if bars(c, own) {
         return Reach {
@@ -75,5 +78,5 @@ pub fn walk(s: &[u8], map: &[u8], d: usize, c: usize, own: bool) -> Reach
             stop: Stop::Barred,
         };
     }
-    walk_out(s, map, d, c)
+    walk_out(text, d, c)
 }

@@ -32,9 +32,8 @@ module _ (x : Text) (d c : ℕ) where
 
   one_reply : (r r' : Result Reach Refusal) → CentreReply x d c r → CentreReply x d c r' → r ≡ r'
   one_reply (Ok f) (Ok f') p q =
-      let e : f.length ≡ f'.length = longest_unique p.accepted.0 q.accepted.0 in
       let s : f.stop ≡ f'.stop = one_stop x d c f.stop f'.stop p.accepted.1 q.accepted.1 in
-      λ i. Ok (record { length = e i; stop = s i })
+      λ i. Ok (record { length = longest_unique p.accepted.0 q.accepted.0 i; stop = s i })
   one_reply (Ok f) (Err e) p q = absurd (not_zero e (q.number ∙ sym p.number))
   one_reply (Err e) (Ok f) p q = absurd (not_zero e (p.number ∙ sym q.number))
   one_reply (Err e) (Err e') p q = ap Err (same_refusal e e' (p.number ∙ sym q.number))

@@ -10,7 +10,6 @@ use spans::outward::{Reach, Stop, walk};
 use spans::{centre_count, check_walk};
 use terms::refusal::Refusal;
 use texts::Text;
-use texts::flags::own_partner;
 
 // The first refusal of the question for the centre c.
 fn check_centre(text: Text, d: usize, c: usize) -> Result<(), Refusal>
@@ -29,8 +28,8 @@ pub fn centre_stop(text: Text, d: usize, c: usize) -> Result<Reach, Refusal>
     ensures { CentreReply (text_of text.entry) d c result }
 {
     check_centre(text, d, c)?;
-    let own = own_partner(text.map, text.alphabet);
-    Ok(walk(text.letters, text.map, d, c, own))
+    let own = text.own_partner();
+    Ok(walk(text, d, c, own))
 }
 
 // A reply in numbers, as it is printed, and so no Result: the refusal's number and zeros, or 0, the length, the case's number and its two values.

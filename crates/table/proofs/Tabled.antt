@@ -5,11 +5,11 @@ use Prim.Native.Nat.{ℕ, ◌+◌, ◌*◌, ◌≤◌, ◌<◌}
 use native.Mathlib.Omega.{arith}
 use native.Mathlib.Nat.{mul-le-mul_right}
 use lib.ListN.{length, get_or}
-use Rattle.rows.specs.Rows.{Moved, Stored}
+use Rattle.rows.specs.Rows.{Moved}
 use Rattle.tilings.specs.Tilings.{Board, Entry, entries, Table}
 use Rattle.tilings.proofs.Best.{best_entry, last_best, gaps_end}
 use Rattle.table.specs.Work.{Known, PieceRow, GapRow}
-use Rattle.table.proofs.Rows.{gap_row_next, known_stored, known_row}
+use Rattle.table.proofs.Rows.{Cut, gap_row_next, RowStored, known_stored, known_row}
 
 -- The rows from i on are made, and row i of the tilings that begin with a gap.
 pub record Tabled (B : Board) (g : ℕ) (before : List ℕ) (i : ℕ) (gaps after : List ℕ) : Type 0 where
@@ -19,7 +19,7 @@ pub record Tabled (B : Board) (g : ℕ) (before : List ℕ) (i : ℕ) (gaps afte
   pub stay : (k : ℕ) → entries B.size g ≤ k → get_or after k 0 ≡ get_or before k 0
   pub gapped : GapRow B g i gaps
 
-pub tabled_start : (B : Board) {g : ℕ} {row gaps t after : List ℕ} → Stored g B.size row gaps t after → B.size < 65535 → entries B.size g ≤ length t → g < length gaps → ((q : ℕ) → q ≤ g → get_or row q 0 ≡ 0) → ((q : ℕ) → q ≤ g → get_or gaps q 0 ≡ 65535) → Tabled B g after B.size gaps after
+pub tabled_start : (B : Board) {g : ℕ} {row gaps t after : List ℕ} → RowStored g B.size row gaps t after → B.size < 65535 → entries B.size g ≤ length t → length gaps ≡ g + 1 → ((q : ℕ) → q ≤ g → get_or row q 0 ≡ 0) → ((q : ℕ) → q ≤ g → get_or gaps q 0 ≡ 65535) → Tabled B g after B.size gaps after
 tabled_start B {g} {row} {gaps} s z r w zeros tops =
     record {
       under = omega arith;
@@ -35,10 +35,10 @@ module _ {B : Board} {g i : ℕ} {before gaps t : List ℕ} (r : Tabled B g befo
   pub tabled_known : (j : ℕ) → i ≡ j + 1 → Known B g (j + 1) t
   tabled_known j e = rw e at r.known
 
-  pub tabled_next : {j : ℕ} {row gaps' after : List ℕ} → i ≡ j + 1 → B.size < 65535 → PieceRow B g j row → Moved g gaps t (i * (g + 1)) gaps' → Stored g j row gaps' t after → Tabled B g before j gaps' after
-  tabled_next {j} {row} {gaps'} e z p m s =
+  pub tabled_next : {j : ℕ} {below row gaps' after : List ℕ} → i ≡ j + 1 → B.size < 65535 → PieceRow B g j row → Cut g ((j + 1) * (g + 1)) t below → Moved gaps below gaps' → RowStored g j row gaps' t after → Tabled B g before j gaps' after
+  tabled_next {j} {below} {row} {gaps'} e z p c m s =
       let u : i ≤ B.size = r.under in
-      let b : GapRow B g j gaps' = gap_row_next (omega arith) (tabled_known j e) (rw e at r.gapped) (rw e at m) in
+      let b : GapRow B g j gaps' = gap_row_next (omega arith) (tabled_known j e) (rw e at r.gapped) c m in
       record {
         under = omega arith;
         long = s.long ∙ r.long;
@@ -49,6 +49,6 @@ module _ {B : Board} {g i : ℕ} {before gaps t : List ℕ} (r : Tabled B g befo
         gapped = b;
       }
 
-  pub tabled_end : {t₀ row last : List ℕ} → Stored g B.size row last t₀ before → i ≤ 0 → Table B g t₀ t
+  pub tabled_end : {t₀ row last : List ℕ} → RowStored g B.size row last t₀ before → i ≤ 0 → Table B g t₀ t
   tabled_end s z =
       record { long = r.long ∙ s.long; entry = λ j q. r.known.at j q (omega arith); stay = λ k l. r.stay k l ∙ s.stay k l }

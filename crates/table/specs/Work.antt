@@ -1,5 +1,5 @@
 -- Working notions: what inner contracts say of a table half made. No promise to a caller rests on reading them.
-use Rattle.std.specs.Prelude.{List, ℕ, ◌+◌, ◌*◌, ◌≤◌, ◌<◌, length, get_or}
+use Rattle.std.specs.Prelude.{◌≡◌, List, ℕ, ◌+◌, ◌*◌, ◌≤◌, ◌<◌, length, get_or}
 use Rattle.ways.specs.declared.Spans.{Spans}
 use Rattle.ways.specs.Spans.{board_of, Whole}
 use Rattle.ways.specs.Ways.{On, Step, Next}
@@ -18,7 +18,7 @@ KnownFrom x i = Whole x.spans × (x.g ≤ 15) × Known (board_of x.spans) x.g i 
 
 -- A row of g + 1 numbers, each the best of its class.
 pub record Row (C : ℕ → List Part → Type 0) (g : ℕ) (row : List ℕ) : Type 0 where
-  pub wide : g < length row
+  pub wide : length row ≡ g + 1
   pub at : (q : ℕ) → q ≤ g → Best (C q) (get_or row q 0)
 
 -- The tilings from i that begin with a piece (shorter than M), and with a gap, for each number of gaps.

@@ -8,7 +8,7 @@ ghost use Rattle.ways.specs.Spans.{PieceOf, board_of, Measured, Whole};
 ghost use Rattle.ways.specs.Ways.{First, Next};
 ghost use Rattle.table.specs.Work.{KnownFrom, PieceRow, PieceRowUnder, Along, Looked};
 
-use rows::{clear, gap_row, lower, store_row};
+use rows::{NO_TILING, clear, gap_row, lower, store_row};
 use terms::{CENTRES, LETTERS};
 use ways::{NOWHERE, Spans};
 
@@ -58,7 +58,8 @@ impl<'a> Totals<'a> {
     {
         let len = c + 1 - (i + i);
         if is_piece(self.spans, i, len) {
-            lower(row, self.g, self.t, (i + len) * (self.g + 1));
+            let from = (i + len) * (self.g + 1);
+            lower(row, &self.t[from..=from + self.g]);
             return c;
         }
         next[last] = next[c];
@@ -67,11 +68,11 @@ impl<'a> Totals<'a> {
 
     // The least totals of the tilings from i that begin with a piece, for each number of gaps, along the way of i.
     fn piece_row(self, i: usize, first: usize, next: &mut [u16], row: &mut [u16])
-        requires known { (i < self.spans.n) × (self.g < length row.old) × KnownFrom self (i + 1) }
+        requires known { (i < self.spans.n) × (length row.old ≡ self.g + 1) × KnownFrom self (i + 1) }
         requires first { First self.spans i first × Next self.spans i next.old }
         ensures { PieceRow (board_of self.entry.spans) self.entry.g i row.new × Next self.entry.spans i next.new }
     {
-        clear(row, self.g);
+        clear(row);
         let mut last = first;
         let mut c = first;
         // No `for`: the way leads from centre to centre, and `look` changes it.
@@ -83,22 +84,29 @@ impl<'a> Totals<'a> {
 }
 
 // The whole table; later entries stay.
+// Not inlined: in its caller it and the loops there share too few registers, and a question costs up to 1.06 of the instructions.
+#[inline(never)]
 pub fn fill_table(spans: Spans<'_>, g: usize, t: &mut [u16])
     requires { Whole spans × (g ≤ 15) × (spans.m ≤ 1000) × (entries spans.n g ≤ length t.old) }
     ensures { Table (board_of spans.entry) g t.old t.new }
 {
     // Behind the last letter nothing is left to tile: the total is 0 whatever the gaps, and no tiling begins with one.
     let mut row = [0u16; 16];
-    let mut gaps = [65535u16; 16];
-    store_row(&row, &gaps, g, spans.n, t);
+    let row = &mut row[..=g];
+    let mut gaps = [NO_TILING; 16];
+    let gaps = &mut gaps[..=g];
+    let end = spans.n * (g + 1);
+    store_row(row, gaps, &mut t[end..=end + g]);
     let mut first = [NOWHERE; LETTERS];
     let mut next = [NOWHERE; CENTRES];
     spans.lay(&mut first, &mut next);
     for i in (0..spans.n).rev() {
         let begin = spans.first_of(&first, i);
         let made = Totals { spans, g, t: &*t };
-        made.piece_row(i, begin, &mut next, &mut row);
-        gap_row(&mut gaps, g, t, (i + 1) * (g + 1));
-        store_row(&row, &gaps, g, i, t);
+        made.piece_row(i, begin, &mut next, row);
+        let from = i * (g + 1);
+        let below = (i + 1) * (g + 1);
+        gap_row(gaps, &t[below..=below + g]);
+        store_row(row, gaps, &mut t[from..=from + g]);
     }
 }

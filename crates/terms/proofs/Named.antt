@@ -4,7 +4,9 @@ use mathlib.Core.Path.{◌≡◌, refl, sym, ap, ◌∙◌}
 use Prim.Native.Nat.{ℕ, ◌<◌}
 use native.Mathlib.Omega.{arith}
 use mathlib.Core.List.{List, [], ◌∷◌, ◌++◌}
-use Rattle.std.specs.Prelude.{Result, Ok, Err, IsErrAnd}
+use borrow.Author.Tests.{ne_eqb}
+use lib.Dec.{eqb}
+use Rattle.std.specs.Prelude.{Result, Ok, Err, IsErrAnd, is_ok, is_err}
 use Rattle.terms.specs.Refusals.{refusal_number, refusal_of, fault_of, first_fault}
 use Rattle.terms.specs.Maps.{map_faults}
 use Rattle.terms.specs.Alphabets.{alphabet_faults}
@@ -66,6 +68,19 @@ refusal_named OutOfBounds = refl
 
 pub same_refusal : (e e' : Refusal) → refusal_number e ≡ refusal_number e' → e ≡ e'
 same_refusal e e' h = sym (refusal_named e) ∙ (ap refusal_of h ∙ refusal_named e')
+
+-- what is accepted is answered with 0, and nothing else is
+pub unrefused : {A : Type 0} (r : Result A Refusal) → is_ok r ≡ eqb (fault_of r) 0
+unrefused (Ok a) = refl
+unrefused (Err e) = sym (ne_eqb _ _ (not_zero e))
+
+pub erred : {A : Type 0} (r : Result A Refusal) → is_err r ≡ true → fault_of r ≡ 0 → ⊥
+erred (Ok a) h z = cc
+erred (Err e) h z = not_zero e z
+
+pub not_erred : {A : Type 0} (r : Result A Refusal) → is_err r ≡ false → fault_of r ≡ 0
+not_erred (Ok a) h = refl
+not_erred (Err e) h = cc
 
 -- what is answered with 0 is accepted
 pub accepted_of : {A : Type 0} (r : Result A Refusal) → fault_of r ≡ 0 → (a : A) × (r ≡ Ok a)

@@ -24,12 +24,6 @@ pub record SoundText (x : Text) : Type 0 where
 abbrev pub EverySound : List ℕ → List ℕ → (Text → Type 0) → (Text → Type 0) → Type 0
 EverySound s f A B = (z : List ℕ) → SoundText (text s f z) → A (text s f z) → B (text s f z)
 
--- Of some sound text with these letters and this map A holds.
-pub record SomeSound (s f : List ℕ) (A : Text → Type 0) : Type 0 where
-  pub alphabet : List ℕ
-  pub sound : SoundText (text s f alphabet)
-  pub holds : A (text s f alphabet)
-
 -- Limits that meet neither 4 nor 5.
 pub record SoundLimits (l : Limits) : Type 0 where
   pub kind : (l.kind ≡ 1) ⊎ (l.kind ≡ 2)

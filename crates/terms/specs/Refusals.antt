@@ -27,7 +27,7 @@ refusal_number OutsideAlphabet = 19
 refusal_number NoCapital = 20
 refusal_number OutOfBounds = 24
 
--- The refusal that a number names.
+-- The refusal that a number names; of a number that names none, the last one's, 24. `terms/proofs/Named` shows that the lists of faults have none such.
 abbrev pub refusal_of : ℕ → Refusal
 refusal_of k =
     cond (eqb k 1) StringTooLong (

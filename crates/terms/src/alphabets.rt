@@ -13,7 +13,7 @@ pub fn all() -> [u8; 256]
 pub fn is_in(alphabet: &[u8], byte: u8) -> bool
     ensures { result ≡ is_in alphabet.now byte }
 {
-    let b = byte as usize;
+    let b = usize::from(byte);
     if alphabet.len() <= b {
         return false;
     }

@@ -39,8 +39,8 @@ fn own_inverse(map: &[u8]) -> bool
     ensures { result ≡ own_inverse map.now }
 {
     for x in 0..256usize {
-        let y = map[x] as usize;
-        let z = map[y] as usize;
+        let y = usize::from(map[x]);
+        let z = usize::from(map[y]);
         if z != x {
             return false;
         }

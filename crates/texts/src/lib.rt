@@ -1,7 +1,7 @@
 // A string with its map and alphabet, an opening's refusals, and those of two strings with one map.
 #![tactic(auto)]
 
-pub mod flags;
+mod flags;
 
 ghost use Rattle.std.specs.Prelude.{◌≡◌};
 ghost use Rattle.terms.specs.Refusals.{first_fault, fault_of};
@@ -12,7 +12,7 @@ use terms::limits::Limits;
 use terms::refusal::Refusal;
 use terms::{LETTERS, maps};
 
-// The first refusal that a string and a map meet.
+// The first refusal that a string and a map meet. They come apart and in no `Text`: `longest` asks them with no alphabet.
 pub fn check_string(s: &[u8], map: &[u8]) -> Result<(), Refusal>
     ensures { fault_of result ≡ first_fault (string_faults s.now map.now) }
 {
@@ -22,7 +22,7 @@ pub fn check_string(s: &[u8], map: &[u8]) -> Result<(), Refusal>
     maps::check(map)
 }
 
-// The same for two strings with one map: either too long counts.
+// The same for two strings with one map, and so in no struct: either too long counts.
 pub fn check_pair(s: &[u8], t: &[u8], map: &[u8]) -> Result<(), Refusal>
     ensures { fault_of result ≡ first_fault (pair_faults s.now t.now map.now) }
 {
@@ -33,6 +33,7 @@ pub fn check_pair(s: &[u8], t: &[u8], map: &[u8]) -> Result<(), Refusal>
 }
 
 // A string with its map and alphabet, lent.
+// No invariant of sizes: `check` answers of any string and any map, and what asks for sizes says so. Limits stand beside it: walks, centres and records need none.
 #[derive(Clone, Copy)]
 pub struct Text<'a> {
     pub letters: &'a [u8],
@@ -46,7 +47,7 @@ impl<'a> Text<'a> {
         ensures { fault_of result ≡ first_fault (text_faults (text_of self.entry)) }
     {
         check_string(self.letters, self.map)?;
-        flags::check(self.letters, self.map, self.alphabet)
+        self.check_alphabet()
     }
 
     // The first refusal that an opening meets.

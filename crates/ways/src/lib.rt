@@ -6,10 +6,11 @@ ghost use Rattle.std.specs.Prelude.{◌≡◌, ◌+◌, ◌-◌, ◌*◌, ◌≤
 ghost use Rattle.ways.specs.Spans.{Whole};
 ghost use Rattle.ways.specs.Ways.{Nowhere, Laid, EachNext, Entered};
 
-// No centre: more than any string has. A number and no Option: the lists of centres are in fixed memory, where an Option takes twice the room.
+// No centre: more than any string has. A number and no Option: the lists of centres are in fixed memory, and `Laid` speaks of lists of numbers.
 pub const NOWHERE: u16 = 2000;
 
 // Which spans are pieces: the maximal lengths of the centres, the number of letters, the kind and the shortest length.
+// The kind is a number and no enum: `PieceBy` of `tilings` and `Laid` speak of every number. No invariant of sizes: `first_of` takes any spans.
 #[derive(Clone, Copy)]
 pub struct Spans<'a> {
     pub lens: &'a [u16],
@@ -52,6 +53,7 @@ impl<'a> Spans<'a> {
     }
 
     // The ways of all starts.
+    // The two lists come one by one: the caller may lend any that are long enough, and then reads the first alone and changes the second alone.
     pub fn lay(self, first: &mut [u16], next: &mut [u16])
         requires sizes { Whole self × (self.n ≤ length first.old) × (2 * self.n ≤ length next.old + 1) }
         requires nowhere { Nowhere first.old × Nowhere next.old }
@@ -77,7 +79,7 @@ impl<'a> Spans<'a> {
     }
 }
 
-// Every other kind: from each centre to the one behind it.
+// Every other kind: from each centre to the one behind it. It takes n alone and no spans, as `EachNext` speaks of n.
 fn lay_all(n: usize, next: &mut [u16])
     requires { (n ≤ 1000) × (2 * n ≤ length next.old + 1) }
     ensures { EachNext n next.old next.new }

@@ -4,8 +4,8 @@ use Rattle.call.proofs.Stepping.{finished_empty, finished_some}
 use native.Mathlib.Omega.{arith}
 use Rattle.call.proofs.finish.Goals as goal
 
-pub returns-then-at-eq0 : goal.returns-then-at-eq0
-returns-then-at-eq0 c = record { written_in_bounds = omega arith; finishing = finished_empty _ _ _ (omega arith) (omega arith) }
+pub returns-then-line-eq0 : goal.returns-then-line-eq0
+returns-then-line-eq0 c = record { written_in_bounds = omega arith; finishing = finished_empty _ _ _ (omega arith) (omega arith) }
 
 pub returns : goal.returns
-returns c = record { written_in_bounds = let h = put_end c.answer.ensures.puts in omega (arith, h); finishing = finished_some _ _ _ (omega arith) c.if-at-eq0.false c.answer.ensures }
+returns c = record { written_in_bounds = let h = put_end c.answer.ensures.puts in omega (arith, h); finishing = finished_some _ _ _ (omega arith) c.if-line-eq0.false c.answer.ensures }

@@ -13,7 +13,7 @@ pub fill_lengths-requires : goal.fill_lengths-requires
 fill_lengths-requires c = let a = c.args in let (t, l, h) = table_sound (text_of a.text) a.limits (ListN.length a.table.now) _ c.in_ok-check_table.ensures refl in record { sound_text = t; sizes = (l.near, omega (arith, t.short)) }
 
 pub tile_by-requires : goal.tile_by-requires
-tile_by-requires c = let a = c.args in let (t, l, h) = table_sound (text_of a.text) a.limits (ListN.length a.table.now) _ c.in_ok-check_table.ensures refl in record { some_sound = record { alphabet = a.text.alphabet.now; sound = t; holds = c.fill_lengths.ensures.filled }; sound_limits = l; lengths_fit = omega (arith, t.short, c.fill_lengths.auto); table_fits = h }
+tile_by-requires c = let a = c.args in let (t, l, h) = table_sound (text_of a.text) a.limits (ListN.length a.table.now) _ c.in_ok-check_table.ensures refl in record { sound_text = t; sound_limits = l; held = c.fill_lengths.ensures.filled; lengths_fit = omega (arith, t.short, c.fill_lengths.auto); table_fits = h }
 
 pub returns : goal.returns
-returns c = let a = c.args in let t = table_sound (text_of a.text) a.limits (ListN.length a.table.now) _ c.in_ok-check_table.ensures refl in reply_given (text_of a.text) a.limits a.table.now a.room.now c.in_ok-check_table.ensures _ _ _ (c.tile_by.ensures _ t.0 c.fill_lengths.ensures.filled)
+returns c = let a = c.args in reply_given (text_of a.text) a.limits a.table.now a.room.now c.in_ok-check_table.ensures _ _ _ c.tile_by.ensures

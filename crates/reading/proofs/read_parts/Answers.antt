@@ -8,9 +8,6 @@ use Rattle.reading.proofs.read_parts.Goals as goal
 pub loop-i-init : goal.loop-i-init
 loop-i-init c = (walked_start _ _ _ c.requires.tiled, λ j h. refl)
 
-pub next_part-next-requires : goal.next_part-next-requires
-next_part-next-requires c = record { sizes = omega arith; known = c.requires.known; tiled = c.loop-i.invariant.0.more }
-
 pub loop-i-preserved : goal.loop-i-preserved
 loop-i-preserved c = (walked_next c.loop-i.invariant.0 (omega arith) c.next_part-next.ensures, λ j h. get_or-set_other c.loop-i.codes c.loop-i.k j c.next_part-next.result.code 0 (omega arith) ∙ c.loop-i.invariant.1 j (omega arith))
 

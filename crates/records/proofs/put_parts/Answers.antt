@@ -1,5 +1,4 @@
 -- `put_parts` meets its contract: the first k records are stored. Assumes nothing.
-use mathlib.Core.Path.{refl}
 use native.Mathlib.Omega.{arith}
 use Rattle.records.proofs.Putting.{putting_start, putting_fit, putting_next, putting_end}
 use Rattle.records.proofs.put_parts.Goals as goal
@@ -11,7 +10,7 @@ pub put_part-i-requires : goal.put_part-i-requires
 put_part-i-requires c = record { sizes = omega arith; fit = putting_fit _ _ _ _ _ _ c.loop-k.invariant (omega arith) }
 
 pub loop-k-preserved : goal.loop-k-preserved
-loop-k-preserved c = putting_next _ _ _ _ _ _ c.loop-k.invariant (omega arith) _ _ c.put_part-i.auto.room c.put_part-i.ensures
+loop-k-preserved c = putting_next _ _ _ _ _ _ c.loop-k.invariant (omega arith) _ _ c.put_part-i.auto.room (c.put_part-i.ensures.next, c.put_part-i.ensures.put)
 
 pub returns : goal.returns
 returns c = putting_end _ _ _ _ _ _ _ c.loop-k.invariant (omega arith) (omega arith)

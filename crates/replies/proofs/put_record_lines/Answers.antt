@@ -1,16 +1,14 @@
--- `put_record_lines` meets its contract: the lines of the first k records are put. Assumes nothing.
+-- `put_record_lines` meets its contract: the line of the next record is put behind those before it. Assumes nothing.
+use mathlib.Core.Path.{sym, ◌∙◌}
 use native.Mathlib.Numerals.{add-one}
-use mathlib.Core.Path.{refl}
-use Rattle.printing.proofs.Laws.{put_none, then_on}
-use Rattle.replies.proofs.Lines.{all_lines}
-use native.Mathlib.Omega.{arith}
+use lib.ListN.{length, length-append}
+use Rattle.printing.proofs.Laws.{then_on}
+use Rattle.replies.proofs.Lines.{next_record}
 use Rattle.replies.proofs.put_record_lines.Goals as goal
 
-pub loop-k-init : goal.loop-k-init
-loop-k-init c = record { same_room = refl; put = put_none (omega arith) }
-
-pub loop-k-preserved : goal.loop-k-preserved
-loop-k-preserved c = rw add-one (then_on c.loop-k.invariant c.put_record_line.ensures)
-
-pub returns : goal.returns
-returns c = all_lines _ _ _ c.loop-k.invariant (omega arith) c.loop-k-test.false
+pub loop-bytes-preserved : goal.loop-bytes-preserved
+loop-bytes-preserved c =
+    let (p, few, six, rest) = c.loop-bytes.invariant in
+    let s = c.in-Some.ensures.steps in
+    let n = next_record c.args.records.now _ _ (length c.loop-bytes.yielded) (sym s.1.0 ∙ rest) (s.1.1 ∙ six) in
+    rw (length-append, add-one) (then_on p (rw n.2 at c.put_record_line.ensures), n.0, s.0 ∙ six, n.1)

@@ -1,18 +1,13 @@
--- `all_right` meets its contract: the records before the k-th are right. Assumes nothing.
-use native.Mathlib.Omega.{arith}
-use borrow.Author.Count.{below_more}
-use Rattle.terms.proofs.Told.{told_yes, told_no}
+-- `all_right` meets its contract: each answer tells of its record, and so the result tells of all. Assumes nothing.
+use Rattle.std.proofs.Common.{subst, rules}
+use Rattle.texts.specs.Lent.{text_of}
 use Rattle.returned.specs.Work.{Judged}
-use Rattle.returned.proofs.Judging.{judge_end}
+use Rattle.returned.proofs.Records.{judged_all}
 use Rattle.returned.proofs.all_right.Goals as goal
 
-pub returns-then-not-right : goal.returns-then-not-right
-unfolding Judged
-returns-then-not-right c = record { number = c.loop-k.k; inside = omega arith; wrong = told_no _ _ (c.right.ensures _ c.requires.sound_text c.own_partner.ensures) c.if-not-right.true }
-
-pub loop-k-preserved : goal.loop-k-preserved
-loop-k-preserved c = below_more _ _ c.loop-k.invariant (told_yes _ _ (c.right.ensures _ c.requires.sound_text c.own_partner.ensures) c.if-not-right.false)
-
 pub returns : goal.returns
-unfolding Judged
-returns c = judge_end _ _ _ (λ k h. c.loop-k.invariant k (omega arith)) c.requires.whole_records
+returns c =
+    let e = c.chunks_exact.ensures in
+    let x = text_of c.args.text in
+    subst (Judged _ x c.args.limits) e.rest
+    (judged_all x c.args.limits _ (λ y b q h. (search rules, search rules)) _ _ _ e.size (rw e.rest c.requires.whole_records) c.all.ensures.ran)

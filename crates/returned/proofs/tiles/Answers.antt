@@ -1,31 +1,29 @@
--- `tiles` meets its contract: the file agrees exactly when what is left does. Assumes nothing.
-use Prim.Native.Nat.{◌*◌}
-use native.Mathlib.Omega.{arith}
-use lib.Dec.{eqb}
-use Rattle.reader.proofs.Bytes.{read_small}
-use Rattle.returned.proofs.Following.{follow_start, off_start, off_gap, follow_next, off_end, follow_end, count_small}
+-- `tiles` meets its contract: what is left of the file tells it. Assumes nothing.
+use Rattle.std.proofs.Common.{◌∙◌, false, inl, inr, rules}
+use Rattle.returned.proofs.Records.{whole_later, bytes_later}
+use Rattle.returned.proofs.Following.{follow_off, follow_on}
 use Rattle.returned.proofs.tiles.Goals as goal
 
-pub loop-k-init : goal.loop-k-init
-loop-k-init c = follow_start _ _ _
-
 pub returns-then-found-i : goal.returns-then-found-i
-returns-then-found-i c = off_start _ _ _ _ _ _ _ c.loop-k.invariant (omega arith) _ c.record_at-found.ensures c.if-found-i.true
+returns-then-found-i c =
+    let s = c.in-Some.ensures.steps.1 in
+    let k = c.loop-record.invariant in
+    k.tells false (follow_off _ _ (s.1 ∙ k.six) _ c.record_at-found.ensures _ _ _ _ _ _ s.0 (inl c.if-found-i.true))
 
 pub returns-then-gap : goal.returns-then-gap
-returns-then-gap c = off_gap _ _ _ _ _ _ _ c.loop-k.invariant (omega arith) _ c.record_at-found.ensures c.if-behind.true c.if-gap.true
+returns-then-gap c =
+    let s = c.in-Some.ensures.steps.1 in
+    let k = c.loop-record.invariant in
+    k.tells false (follow_off _ _ (s.1 ∙ k.six) _ c.record_at-found.ensures _ _ _ _ _ _ s.0 (inr (c.if-behind.true, c.if-gap.true)))
 
-pub overflow_add-i : goal.overflow_add-i
-overflow_add-i c = let y = read_small c.args.file.now (6 * c.loop-k.k) (λ k. omega (arith, c.type_inv.file k)) _ c.record_at-found.ensures in let z = c.if-found-i.false in omega arith
-
-pub overflow_add-gaps : goal.overflow_add-gaps
-overflow_add-gaps c = let h = c.loop-k.invariant.few in let y = count_small (eqb c.record_at-found.result.tag 71) in omega arith
-
-pub loop-k-preserved : goal.loop-k-preserved
-loop-k-preserved c = follow_next _ _ _ _ _ _ _ c.loop-k.invariant (omega arith) _ c.record_at-found.ensures c.if-found-i.false c.else-behind.either _ c.from-gaps.ensures
-
-pub returns-then-i-n : goal.returns-then-i-n
-returns-then-i-n c = follow_end _ _ _ _ _ _ _ c.loop-k.invariant (omega arith) c.if-i-n.true
-
-pub returns-else-i-n : goal.returns-else-i-n
-returns-else-i-n c = off_end _ _ _ _ _ _ _ c.loop-k.invariant (omega arith) c.if-i-n.false
+pub loop-record-preserved : goal.loop-record-preserved
+loop-record-preserved c =
+    let s = c.in-Some.ensures.steps.1 in
+    let k = c.loop-record.invariant in
+    record {
+      six = search rules;
+      whole = whole_later _ _ _ s.0 (s.1 ∙ k.six) k.whole;
+      few = search rules;
+      bytes = bytes_later _ _ _ s.0 k.bytes;
+      tells = λ v h. k.tells v (follow_on _ _ (s.1 ∙ k.six) _ c.record_at-found.ensures _ _ _ _ _ _ s.0 c.if-found-i.false c.else-behind.either _ c.from-gaps.ensures v h);
+    }

@@ -1,7 +1,5 @@
 -- `fill_longest` meets its contract: the entries from a on hold their starts' longest lengths, and the word is that of the letters from a on. Assumes nothing.
-use Prim.Native.Nat.{◌-◌}
-use native.Mathlib.Omega.{arith}
-use lib.ListN.{length}
+use Rattle.std.proofs.Common.{◌-◌, arith, length}
 use Rattle.terms.proofs.Ranges.{fill_none, fill_down}
 use Rattle.shuffled.specs.Work.{ParityWord}
 use Rattle.shuffled.proofs.Parities.{capital_at, word_end, word_before}
@@ -10,10 +8,14 @@ use Rattle.shuffled.proofs.fill_longest.Goals.{After-turned-w}
 
 -- the word has one more letter
 word : (c : After-turned-w) → ParityWord c.args.s.now (c.loop-a.a - 1) (length c.args.s.now - (c.loop-a.a - 1)) c.turned-w.result
-word c = let s = c.args.s.now in let l = c.loop-a in rw c.turned-w.ensures (word_before s l.a (length s) l.w (omega arith) l.auto.a (capital_at s c.requires.2 (l.a - 1) (omega arith)).0 l.invariant.0)
+word c =
+    let s = c.args.s.now in
+    let l = c.loop-a in
+    let low = (capital_at s c.requires.2 (l.a - 1) (omega arith)).0 in
+    rw c.turned-w.ensures (word_before s l.a (length s) l.w (omega arith) l.auto.a low l.invariant.word)
 
 pub loop-a-init : goal.loop-a-init
-loop-a-init c = (word_end c.args.s.now, fill_none _ _ _)
+loop-a-init c = record { word = word_end c.args.s.now; filled = fill_none _ _ _ }
 
 pub turned-w-requires : goal.turned-w-requires
 turned-w-requires c = capital_at _ c.requires.2 _ (omega arith)
@@ -23,8 +25,8 @@ longest_from-requires-clause-parity_word c = word (goal.at.longest_from-requires
 
 pub loop-a-preserved : goal.loop-a-preserved
 loop-a-preserved c =
-    let s = c.args.s.now in
-    let l = c.loop-a in (
-      word (goal.at.loop-a-preserved c).After-turned-w,
-      fill_down _ l.a (length s) _ _ l.invariant.1 _ (omega arith) l.auto.a (omega arith) c.longest_from.ensures,
-    )
+    let l = c.loop-a in
+    record {
+      word = word (goal.at.loop-a-preserved c).After-turned-w;
+      filled = fill_down _ l.a (length c.args.s.now) _ _ l.invariant.filled _ (omega arith) l.auto.a (omega arith) c.longest_from.ensures;
+    }

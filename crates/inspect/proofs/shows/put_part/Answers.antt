@@ -7,4 +7,4 @@ use Rattle.inspect.proofs.shows.put_part.Goals as goal
 pub returns : goal.returns
 returns c =
     let p = put_numbers _ c.put_items.ensures in
-    and_then c.put_line.ensures.put (search (rules, p))
+    rw (← c.number_of.ensures) (and_then c.put_line.ensures.put (search (rules, p)))

@@ -7,10 +7,10 @@ use Rattle.terms.proofs.Passed.{sound_all}
 use Rattle.longest.proofs.search.first_longest.Goals as goal
 
 pub longer_of-best-requires : goal.longer_of-best-requires
-longer_of-best-requires c = let h = length_fits _ _ _ _ (c.walk-found.ensures.maximal all_bytes (sound_all _ _ c.requires (λ k. omega (arith, c.type_inv.s k))) (c.own_partner-own.ensures ∙ ap (own_partner _) c.all.ensures)) in omega (arith, h, c.from.ensures)
+longer_of-best-requires c = let h = length_fits _ _ _ _ (c.walk-found.ensures.maximal all_bytes (sound_all _ _ c.requires (λ k. omega (arith, c.type_inv.s k))) (c.own_partner-own.ensures ∙ ap (own_partner _) c.all-all.ensures)) in omega (arith, h, c.from.ensures)
 
 pub loop-c-preserved : goal.loop-c-preserved
-loop-c-preserved c = search_next _ _ c.requires (λ k. omega (arith, c.type_inv.s k)) _ _ _ _ c.loop-c.invariant (c.walk-found.ensures.maximal all_bytes (sound_all _ _ c.requires (λ k. omega (arith, c.type_inv.s k))) (c.own_partner-own.ensures ∙ ap (own_partner _) c.all.ensures)) (rw c.from.ensures at c.longer_of-best.ensures)
+loop-c-preserved c = search_next _ _ c.requires (λ k. omega (arith, c.type_inv.s k)) _ _ _ _ c.loop-c.invariant (c.walk-found.ensures.maximal all_bytes (sound_all _ _ c.requires (λ k. omega (arith, c.type_inv.s k))) (c.own_partner-own.ensures ∙ ap (own_partner _) c.all-all.ensures)) (rw c.from.ensures at c.longer_of-best.ensures)
 
 pub returns : goal.returns
 returns c = search_end _ _ _ _ c.loop-c.invariant (omega arith)

@@ -1,30 +1,18 @@
 -- `Sheet::take_back` meets its contract: 24, 8, or the newest change taken back. Assumes nothing.
 use Prim.Native.Nat.{◌+◌, ◌-◌}
-use Rattle.changes.specs.Work.{fits}
 use Rattle.changes.specs.declared.Edit.{Edit}
 use Rattle.kept.specs.Work.{popped_number}
-use Rattle.sheet.proofs.Replying.{call_refused, call_accepted, applied_accepted, newest_fits, back_24, back_number, back_is}
-use Rattle.sheet.proofs.Within.{bounds}
+use Rattle.sheet.proofs.Replying.{call_refused, call_accepted, applied_accepted, back_24, back_number, back_is}
 use Rattle.terms.specs.declared.refusal.Refusal.TheVariants.{OutOfBounds, NoneStands}
 use Rattle.sheet.specs.Calls.{applied}
 use mathlib.Core.Path.{sym, ap, ◌∙◌}
-use native.Mathlib.Omega.{arith}
 use Rattle.sheet.proofs.Sheet.take_back.Goals as goal
 
 pub returns-then-not-in_bounds : goal.returns-then-not-in_bounds
 returns-then-not-in_bounds c = call_refused _ _ _ OutOfBounds (back_24 _ (sym c.in_bounds.ensures ∙ c.if-not-in_bounds.true)) _ c.refused.ensures
 
-pub newest-requires : goal.newest-requires
-newest-requires c = omega (arith, (bounds _ (sym c.in_bounds.ensures ∙ c.if-not-in_bounds.false)).few)
-
 pub returns-in_default : goal.returns-in_default
 returns-in_default c = call_refused _ _ _ NoneStands (back_number _ (sym c.in_bounds.ensures ∙ c.if-not-in_bounds.false) 8 (ap (popped_number 8) (sym c.in_default.is) ∙ c.newest.ensures.1)) _ c.refused-in_default.ensures
-
-pub overflow_add-self : goal.overflow_add-self
-overflow_add-self c = omega (arith, (bounds _ (sym c.in_bounds.ensures ∙ c.if-not-in_bounds.false)).few)
-
-pub apply-requires : goal.apply-requires
-apply-requires c = let w = sym c.in_bounds.ensures ∙ c.if-not-in_bounds.false in ((bounds _ w).letters, ap (fits _) c.back.ensures ∙ newest_fits _ _ w (sym c.newest.ensures.0 ∙ c.in-Change.is))
 
 pub returns : goal.returns
 returns c = let s = c.args.self in let w = sym c.in_bounds.ensures ∙ c.if-not-in_bounds.false in let o = c.newest.ensures in let q = c.in-Change.is in call_accepted _ _ _ (back_number s w 0 (ap (popped_number 8) (sym q) ∙ o.1)) _ (c.apply.ensures ∙ ap (λ (e : Edit). applied s e (s.standing - 1) (s.taken + 1)) (c.back.ensures ∙ back_is s _ (sym o.0 ∙ q))) (applied_accepted _ _ _ _)

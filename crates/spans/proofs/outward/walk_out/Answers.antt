@@ -6,8 +6,8 @@ use Rattle.spans.proofs.outward.walk_out.Goals as goal
 pub loop-i-init : goal.loop-i-init
 loop-i-init c = walk_start _ _ _ _ (omega arith)
 
-pub returns-then-s-j : goal.returns-then-s-j
-returns-then-s-j c = let w = c.loop-i.invariant in record { maximal = λ z sound free. stop_end _ _ _ _ _ _ w (omega arith) c.if-s-j.true _ (omega arith) z free; stopped = λ z sound free. ends_end _ _ _ _ _ _ w (omega arith) c.if-s-j.true _ c.reached.ensures.1 z free }
+pub returns-then-text-j : goal.returns-then-text-j
+returns-then-text-j c = let w = c.loop-i.invariant in record { maximal = λ z sound free. stop_end _ _ _ _ _ _ w (omega arith) c.if-text-j.true _ (omega arith) z free; stopped = λ z sound free. ends_end _ _ _ _ _ _ w (omega arith) c.if-text-j.true _ c.reached.ensures.1 z free }
 
 pub overflow_add-e : goal.overflow_add-e
 overflow_add-e c = let few = c.loop-i.invariant.few in omega (arith, one_fits _ _ c.differ-e.ensures)

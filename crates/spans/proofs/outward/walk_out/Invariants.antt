@@ -3,4 +3,4 @@ use Rattle.spans.proofs.Walking.{Walk}
 use Rattle.spans.proofs.outward.walk_out.Given as goal
 
 abbrev pub invariant-loop-i : goal.invariant-loop-i
-invariant-loop-i l = Walk l.s l.map l.d l.c l.i l.e
+invariant-loop-i l = Walk l.text.letters.now l.text.map.now l.d l.c l.i l.e

@@ -5,4 +5,4 @@ use mathlib.Core.Path.{◌≡◌}
 use Rattle.spans.proofs.pairs.count_errors.Given as goal
 
 abbrev pub invariant-loop-k : goal.invariant-loop-k
-invariant-loop-k l = (l.e + error_count l.s l.map (l.a + l.k) (l.len - (l.k + l.k)) ≡ error_count l.s l.map l.a l.len) × (l.e ≤ l.k)
+invariant-loop-k l = (l.e + error_count l.text.letters.now l.text.map.now (l.a + l.k) (l.len - (l.k + l.k)) ≡ error_count l.text.letters.now l.text.map.now l.a l.len) × (l.e ≤ l.k)

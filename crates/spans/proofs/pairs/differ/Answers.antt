@@ -16,4 +16,4 @@ as_one false = refl
 pub returns : goal.returns
 returns c =
     let a = c.args in
-    c.from-2.ensures ∙ as_one _ ∙ ap (λ (b : ℕ). one (not (eqb (get_or a.s.now a.i 0) (get_or a.map.now b 0)))) c.from.ensures
+    c.from-2.ensures ∙ as_one _ ∙ ap (λ (b : ℕ). one (not (eqb (get_or a.text.letters.now a.i 0) (get_or a.text.map.now b 0)))) c.from.ensures

@@ -2,7 +2,6 @@
 use mathlib.Core.Path.{sym}
 use native.Mathlib.Omega.{arith}
 use borrow.Author.Tests.{eq-eqb, ne_eqb}
-use lib.ListN.{get_or}
 use Rattle.terms.specs.Maps.{own_inverse}
 use Rattle.terms.proofs.Below.{below_zero, below_more, below_not, below_all}
 use Rattle.terms.proofs.maps.own_inverse.Goals as goal
@@ -10,21 +9,15 @@ use Rattle.terms.proofs.maps.own_inverse.Goals as goal
 pub loop-x-init : goal.loop-x-init
 loop-x-init c = below_zero _
 
-pub overflow_cast-y : goal.overflow_cast-y
-overflow_cast-y c = omega (arith, c.type_inv.map c.loop-x.x)
-
 pub bounds-map-y : goal.bounds-map-y
-bounds-map-y c = omega (arith, c.type_inv.map c.loop-x.x)
-
-pub overflow_cast-z : goal.overflow_cast-z
-overflow_cast-z c = omega (arith, c.type_inv.map (get_or c.args.map.now c.loop-x.x 0))
+bounds-map-y c = omega (arith, c.from-y.ensures, c.type_inv.map c.loop-x.x)
 
 pub returns-then-z-x : goal.returns-then-z-x
 unfolding own_inverse
-returns-then-z-x c = sym (below_not _ 256 c.loop-x.x (omega arith) (ne_eqb _ _ c.if-z-x.true))
+returns-then-z-x c = sym (below_not _ 256 c.loop-x.x (omega arith) (ne_eqb _ _ (rw (c.from-z.ensures, c.from-y.ensures) at c.if-z-x.true)))
 
 pub loop-x-preserved : goal.loop-x-preserved
-loop-x-preserved c = below_more _ _ c.loop-x.invariant (eq-eqb _ _ c.if-z-x.false)
+loop-x-preserved c = below_more _ _ c.loop-x.invariant (eq-eqb _ _ (rw (c.from-z.ensures, c.from-y.ensures) at c.if-z-x.false))
 
 pub returns : goal.returns
 unfolding own_inverse

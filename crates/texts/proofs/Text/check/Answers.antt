@@ -9,8 +9,8 @@ use Rattle.texts.proofs.Text.check.Goals as goal
 pub returns-in_err-check_string : goal.returns-in_err-check_string
 returns-in_err-check_string c = handed_on _ _ c.from_residual.ensures.1 ∙ string_refuses (text_of c.args.self) _ c.in_err-check_string.ensures (not_zero _)
 
-pub check-requires : goal.check-requires
-check-requires c = (sound_string _ _ (sym c.in_ok-check_string.ensures)).wide
+pub check_alphabet-requires : goal.check_alphabet-requires
+check_alphabet-requires c = (sound_string _ _ (sym c.in_ok-check_string.ensures)).wide
 
 pub returns : goal.returns
-returns c = string_passes (text_of c.args.self) _ _ c.in_ok-check_string.ensures refl c.check.ensures
+returns c = string_passes (text_of c.args.self) _ _ c.in_ok-check_string.ensures refl c.check_alphabet.ensures

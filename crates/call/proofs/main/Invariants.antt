@@ -1,6 +1,0 @@
--- `main` is safe and ends: what is kept of a line stands in its buffer. Assumes nothing.
-use Prim.Native.Nat.{◌≤◌}
-use Rattle.call.proofs.main.Given as goal
-
-abbrev pub invariant-loop : goal.invariant-loop
-invariant-loop l = l.b.at ≤ 1041
