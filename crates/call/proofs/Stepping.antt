@@ -2,10 +2,10 @@
 use mathlib.Core.Path.{◌≡◌, refl, sym, ap, ◌∙◌, subst}
 use mathlib.Core.Bool.{Bool, true, false}
 use mathlib.Core.List.{List, [], ◌∷◌, ◌++◌, append_assoc, append-nil}
-use Prim.Native.Nat.{ℕ, ◌≤◌, ◌<◌}
+use Prim.Native.Nat.{ℕ, ◌≤◌}
 use native.Mathlib.Omega.{arith}
 use native.Mathlib.Decide.{dec_le}
-use borrow.Author.Tests.{ltb-true, ltb-false}
+use borrow.Author.Tests.{ltb-false}
 use lib.Dec.{T}
 use lib.ListN.{length, take, drop, length-drop, drop_of_length-le}
 use lib.Seq.{take_all, take-nil, length-take-le}
@@ -13,14 +13,12 @@ use Rattle.std.specs.Prelude.{Option, None}
 use Rattle.lines.specs.declared.Line.{Line}
 use Rattle.lines.proofs.Reading.{too_long, one_reading}
 use Rattle.feed.specs.Lines.{whole_lines, last_line, Kept}
-use Rattle.feed.specs.Feeding.{up_to_end, ends, Feeds, TakesOn}
+use Rattle.feed.specs.Feeding.{up_to_end, ends, TakesOn}
 use Rattle.feed.specs.declared.Fed.{Fed}
-use Rattle.feed.proofs.Ends.{within}
 use Rattle.feed.proofs.Pieces.{feeding}
 use Rattle.desk.specs.Desk.{Does, DeskReply}
 use Rattle.desk.specs.declared.Desk.{Desk}
 use Rattle.desk.specs.declared.Turn.{Turn}
-use Rattle.feed.proofs.Keeping.{kept_self}
 use Rattle.call.specs.declared.Progress.{Progress}
 use Rattle.call.specs.Steps.{State, state, Answered, Answers, Finishing}
 use Rattle.call.specs.Work.{line_now, Stepping}
@@ -47,21 +45,6 @@ whole_line d room at line long k {table} {table'} {work} {work'} {out} {out'} {r
     ]
 
 module _ (bytes bytes' : List ℕ) (at : ℕ) (piece : List ℕ) (from : ℕ) (fed : Fed) (f : TakesOn bytes at piece from bytes' fed) where
-  -- where the step leaves off
-  pub fed_bounds : at ≤ length bytes → from < length piece → (from < fed.from) × (fed.from ≤ length piece)
-  fed_bounds h l = go (ends (drop from piece)) refl
-    where
-      p : Feeds (take at bytes) piece from bytes' fed
-      p = f (take at bytes) (kept_self bytes at h)
-
-      go : (t : Bool) → ends (drop from piece) ≡ t → (from < fed.from) × (fed.from ≤ length piece)
-      go true e =
-          let n = rw e at p.next in
-          omega (arith, n, ltb-true (length (up_to_end (drop from piece))) (length (drop from piece)) e, length-drop from piece)
-      go false e =
-          let n = rw e at p.next in
-          omega (arith, n, ltb-false (length (up_to_end (drop from piece))) (length (drop from piece)) e, within (drop from piece), length-drop from piece)
-
   module _ (d : Desk) {table room out : List ℕ} where
     pub step_ended : length bytes' ≡ 1041 → fed.whole ≡ true → {table' room' out' : List ℕ} {turn : Turn} → DeskReply d (take fed.at bytes') table table' room room' out out' turn
         → Stepping d bytes bytes' at 0 piece from table table' room room' out out' (record { desk = turn.desk; from = fed.from; written = turn.written })

@@ -1,5 +1,5 @@
 -- `step` meets its contract. Assumes nothing.
-use Rattle.inspect.proofs.Stepping.{goes_on}
+use Rattle.feed.proofs.Onward.{goes_on}
 use native.Mathlib.Omega.{arith}
 use Rattle.inspect.proofs.step.Goals as goal
 
