@@ -5,7 +5,7 @@ use Rattle.terms.specs.declared.refusal.Refusal.{Refusal}
 use Rattle.questions.specs.Tiling.{Answer}
 use Rattle.questions.specs.declared.Untiled.TheVariants.{Refused as refused_for, ShortRoom}
 use Rattle.stops.specs.Centre.{reply_values}
-use Rattle.spans.specs.declared.outward.Reach.{Reach}
+use Rattle.stops.specs.declared.CentreStop.{CentreStop}
 use Rattle.printing.specs.Printing.{printed}
 use Rattle.reader.specs.Reader.{Stepped, step_values}
 
@@ -32,7 +32,7 @@ abbrev pub filled_text : ℕ → List ℕ → List ℕ → List ℕ
 filled_text letter numbers entries = printed letter numbers ++ printed 69 entries
 
 -- `D` with the number and the values of the reply.
-abbrev pub stop_text : Result Reach Refusal → List ℕ
+abbrev pub stop_text : Result CentreStop Refusal → List ℕ
 stop_text found = printed 68 (fault_of found ∷ reply_values found)
 
 -- `P` or `W` with the refusal and the part's length, `R` with the part.

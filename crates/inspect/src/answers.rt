@@ -49,18 +49,22 @@ fn tiling(asked: TilingAsk, string: &[u8], lends: Lends<'_>) -> usize
     ensures { result ≤ length lends.entry.out.now }
 {
     let Lends { table, room, out } = lends;
-    let (map, alphabet) = asked.letters.lent();
+    let map = asked.letters.map.lent();
+    let alphabet = asked.letters.alphabet.lent();
     let text = text_with(string, &map, &alphabet);
     let answer = tile(text, asked.limits, table, room);
     put_tiling(out, b'T', answer, table, room)
 }
 
 // `S`: the tiling question on a sheet, or why the sheet is not opened.
+// Not inlined, and `one_centre` neither: with both in `answer` the walk of the centres lay where its loop took 1.4 of the time (docs/SPEED.md, Where a loop lies).
+#[inline(never)]
 fn sheet_tiling(asked: TilingAsk, string: &[u8], lends: Lends<'_>) -> usize
     ensures { result ≤ length lends.entry.out.now }
 {
     let Lends { table, room, out } = lends;
-    let (map, alphabet) = asked.letters.lent();
+    let map = asked.letters.map.lent();
+    let alphabet = asked.letters.alphabet.lent();
     let opened = Sheet::open(text_with(string, &map, &alphabet), asked.limits);
     if let Err(refusal) = opened.said {
         return put_refusal(out, refusal.number());
@@ -74,7 +78,8 @@ fn centres(asked: CentresAsk, string: &[u8], lends: Lends<'_>) -> usize
     ensures { result ≤ length lends.entry.out.now }
 {
     let Lends { table, out, .. } = lends;
-    let (map, alphabet) = asked.letters.lent();
+    let map = asked.letters.map.lent();
+    let alphabet = asked.letters.alphabet.lent();
     let text = text_with(string, &map, &alphabet);
     let numbers = match fill_centres(text, asked.d, table) {
         Ok(count) => [0, count],
@@ -84,10 +89,12 @@ fn centres(asked: CentresAsk, string: &[u8], lends: Lends<'_>) -> usize
 }
 
 // `D`: the maximal length of one centre, and what stops it.
+#[inline(never)]
 fn one_centre(asked: CentresAsk, string: &[u8], out: &mut [u8]) -> usize
     ensures { result ≤ length out.old }
 {
-    let (map, alphabet) = asked.letters.lent();
+    let map = asked.letters.map.lent();
+    let alphabet = asked.letters.alphabet.lent();
     let text = text_with(string, &map, &alphabet);
     put_stop(out, centre_stop(text, asked.d, asked.number))
 }

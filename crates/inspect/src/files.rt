@@ -105,7 +105,8 @@ fn agreement(asked: AgreeAsk, line: &[u8], room: &mut [u8], out: &mut [u8]) -> u
     let Some(string) = space_after(line, file.next) else {
         return put_refusal(out, Refusal::NotUnderstood.number());
     };
-    let (map, alphabet) = asked.letters.lent();
+    let map = asked.letters.map.lent();
+    let alphabet = asked.letters.alphabet.lent();
     let text = text_with(&line[string..], &map, &alphabet);
     let number = number_of(agree(text, asked.limits, &room[..file.bytes]));
     let mut page = Page { room: out, at: 0 };

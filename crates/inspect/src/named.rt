@@ -1,10 +1,8 @@
 // The map and the alphabet that a line names.
 ghost use Rattle.std.specs.Prelude.{length};
 ghost use Rattle.inspect.specs.Asking.{Begins, Follows};
-ghost use Rattle.inspect.specs.Lending.{LendsMap, LendsFlags};
 
 use crate::alphabets::Alphabet;
-use crate::lent::Lent;
 use crate::maps::Map;
 use lines::fields::stands;
 
@@ -39,16 +37,6 @@ pub fn named_after<T: TryFrom<u8, Error = Unnamed>>(s: &[u8], i: usize) -> Optio
 pub struct Letters {
     pub map: Map,
     pub alphabet: Alphabet,
-}
-
-impl Letters {
-    // The map's bytes and the alphabet's flags.
-    pub fn lent(self) -> (Lent, Lent)
-        ensures map { LendsMap self.map result.0 }
-        ensures alphabet { LendsFlags self.alphabet result.1 }
-    {
-        (self.map.lent(), self.alphabet.lent())
-    }
 }
 
 // The map's letter and the alphabet's, each behind a space, with the place after them.

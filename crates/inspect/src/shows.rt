@@ -7,8 +7,7 @@ ghost use Rattle.inspect.specs.Showing.{Numbers, answer_values, tiling_text, fil
 
 use printing::Page;
 use questions::{Figures, Untiled};
-use spans::outward::Reach;
-use stops::figures;
+use stops::{CentreStop, figures};
 use terms::refusal::Refusal;
 
 // A letter, all items of a slice as numbers, and a line end.
@@ -73,7 +72,7 @@ pub fn put_filled(out: &mut [u8], letter: u8, numbers: &[usize], entries: &[u16]
 }
 
 // What is answered of one centre, in numbers.
-pub fn put_stop(out: &mut [u8], found: Result<Reach, Refusal>) -> usize
+pub fn put_stop(out: &mut [u8], found: Result<CentreStop, Refusal>) -> usize
     ensures { Put out.old 0 (stop_text found) result out.new }
 {
     let told = figures(found);

@@ -240,7 +240,9 @@ impl Sheet {
         if !self.in_bounds() {
             return Err(Refusal::OutOfBounds);
         }
-        e.check(self.n, &self.alphabet)?;
+        // A copy: a sheet of which a part is lent is copied whole wherever it is handed on.
+        let alphabet = self.alphabet;
+        e.check(self.n, &alphabet)?;
         if self.full() {
             return Err(Refusal::AllStand);
         }
@@ -302,7 +304,8 @@ impl Sheet {
         if !self.in_bounds() {
             return self.refused(Refusal::OutOfBounds);
         }
-        let Popped::Change(c) = kept::newest(&self.kept, self.standing) else {
+        let kept = self.kept;
+        let Popped::Change(c) = kept::newest(&kept, self.standing) else {
             return self.refused(Refusal::NoneStands);
         };
         self.apply(c.back(), self.standing - 1, self.taken + 1)
@@ -316,7 +319,8 @@ impl Sheet {
         if !self.in_bounds() {
             return self.refused(Refusal::OutOfBounds);
         }
-        let Popped::Change(c) = kept::last_taken(&self.kept, self.standing, self.taken) else {
+        let kept = self.kept;
+        let Popped::Change(c) = kept::last_taken(&kept, self.standing, self.taken) else {
             return self.refused(Refusal::NoneTakenBack);
         };
         self.apply(c.done(), self.standing + 1, self.taken - 1)
@@ -330,6 +334,8 @@ impl Sheet {
         if !self.in_bounds() {
             return Err(Untiled::Refused(Refusal::OutOfBounds));
         }
-        self.places().tile(self.limits, table, room)
+        // The copy lends its places, so that the sheet itself is handed on as it came.
+        let held = self;
+        held.places().tile(held.limits, table, room)
     }
 }

@@ -14,7 +14,7 @@ use Rattle.terms.proofs.Named.{not_zero, same_refusal}
 use Rattle.spans.specs.Palindromes.{differs, error_count, centres, MaximalLength}
 use Rattle.spans.specs.Centres.{walk_faults}
 use Rattle.spans.specs.Stops.{Stops}
-use Rattle.spans.specs.declared.outward.Reach.{Reach}
+use Rattle.stops.specs.declared.CentreStop.{CentreStop}
 use Rattle.spans.specs.declared.outward.Stop.{Stop}
 use Rattle.spans.specs.declared.outward.Stop.TheVariants.{Pair, End, Barred}
 use Rattle.spans.proofs.Refusing.{errors_pass}
@@ -30,7 +30,7 @@ module _ (x : Text) (d c : ℕ) where
   unfolding centre_faults walk_faults text_faults string_faults map_faults alphabet_faults
   centre_listed = fault_listed (centre_faults x d c)
 
-  one_reply : (r r' : Result Reach Refusal) → CentreReply x d c r → CentreReply x d c r' → r ≡ r'
+  one_reply : (r r' : Result CentreStop Refusal) → CentreReply x d c r → CentreReply x d c r' → r ≡ r'
   one_reply (Ok f) (Ok f') p q =
       let s : f.stop ≡ f'.stop = one_stop x d c f.stop f'.stop p.accepted.1 q.accepted.1 in
       λ i. Ok (record { length = longest_unique p.accepted.0 q.accepted.0 i; stop = s i })
@@ -38,13 +38,13 @@ module _ (x : Text) (d c : ℕ) where
   one_reply (Err e) (Ok f) p q = absurd (not_zero e (p.number ∙ sym q.number))
   one_reply (Err e) (Err e') p q = ap Err (same_refusal e e' (p.number ∙ sym q.number))
 
-  refused_values : (r : Result Reach Refusal) → (fault_of r ≡ 0 → ⊥) → reply_values r ≡ 0 ∷ 0 ∷ 0 ∷ 0 ∷ []
+  refused_values : (r : Result CentreStop Refusal) → (fault_of r ≡ 0 → ⊥) → reply_values r ≡ 0 ∷ 0 ∷ 0 ∷ 0 ∷ []
   unfolding reply_values
   refused_values (Ok f) n = absurd (n refl)
   refused_values (Err e) n = refl
 
   -- an accepted reply, its stop known
-  module _ (r : Reach) (p : CentreReply x d c (Ok r)) where
+  module _ (r : CentreStop) (p : CentreReply x d c (Ok r)) where
     at_stop : (stop : Stop) → r.stop ≡ stop → Stops x d c stop
     at_stop stop e = subst (Stops x d c) e p.accepted.1
 

@@ -12,7 +12,7 @@ use Rattle.terms.specs.Texts.{Text, size}
 use Rattle.terms.specs.Passed.{SoundText}
 use Rattle.spans.specs.Palindromes.{centres}
 use Rattle.spans.specs.Centres.{walk_faults}
-use Rattle.spans.specs.declared.outward.Reach.{Reach}
+use Rattle.stops.specs.declared.CentreStop.{CentreStop}
 use Rattle.spans.proofs.Refusing.{last_passes, more_sound}
 use Rattle.stops.specs.Centre.{centre_faults, CentreReply}
 
@@ -27,6 +27,6 @@ module _ (x : Text) (d c : ℕ) where
   centre_sound k e z = let h = more_sound x d 6 (leb (centres (size x)) c) (omega arith) k e z in (h.0, h.1, leb-false _ _ h.2)
 
   -- the reply to one that is refused
-  pub centre_refused : (r : Result Reach Refusal) (e : Refusal) → IsErrAnd r (λ f. f ≡ e) → refusal_number e ≡ first_fault (centre_faults x d c) → CentreReply x d c r
+  pub centre_refused : (r : Result CentreStop Refusal) (e : Refusal) → IsErrAnd r (λ f. f ≡ e) → refusal_number e ≡ first_fault (centre_faults x d c) → CentreReply x d c r
   centre_refused (Ok f) e h q = absurd h
-  centre_refused (Err f) e h q = record { number = handed_on {A = Reach} (Err f) e h ∙ q; accepted = tt }
+  centre_refused (Err f) e h q = record { number = handed_on {A = CentreStop} (Err f) e h ∙ q; accepted = tt }

@@ -8,7 +8,7 @@ use Rattle.spans.specs.Centres.{walk_faults}
 use Rattle.spans.specs.Stops.{Stops}
 use Rattle.spans.specs.declared.outward.Stop.{Stop}
 use Rattle.spans.specs.declared.outward.Stop.TheVariants.{Pair, End, Barred}
-use Rattle.spans.specs.declared.outward.Reach.{Reach}
+use Rattle.stops.specs.declared.CentreStop.{CentreStop}
 
 -- The number of each case, and its values: both places of the pair, zeros else.
 abbrev pub stop_number : Stop → ℕ
@@ -22,7 +22,7 @@ stop_values End = 0 ∷ 0 ∷ []
 stop_values Barred = 0 ∷ 0 ∷ []
 
 -- The values of a reply: the length, the case's number and its two values; zeros where it is a refusal.
-unfoldable pub reply_values : Result Reach Refusal → List ℕ
+unfoldable pub reply_values : Result CentreStop Refusal → List ℕ
 reply_values (Ok r) = r.length ∷ stop_number r.stop ∷ stop_values r.stop
 reply_values (Err e) = 0 ∷ 0 ∷ 0 ∷ 0 ∷ []
 
@@ -31,6 +31,6 @@ unfoldable pub centre_faults : Text → ℕ → ℕ → List (ℕ × Bool)
 centre_faults x d c = walk_faults x d ++ (6, leb (centres (size x)) c) ∷ []
 
 -- The reply: a refusal is its number alone; else the maximal length of the centre, and what stops it.
-pub record CentreReply (x : Text) (d c : ℕ) (r : Result Reach Refusal) : Type 0 where
+pub record CentreReply (x : Text) (d c : ℕ) (r : Result CentreStop Refusal) : Type 0 where
   pub number : fault_of r ≡ first_fault (centre_faults x d c)
   pub accepted : IfOk r (λ f. MaximalLength x d c f.length × Stops x d c f.stop)

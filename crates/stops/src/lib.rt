@@ -6,7 +6,7 @@ ghost use Rattle.terms.specs.Refusals.{first_fault, fault_of};
 ghost use Rattle.texts.specs.Lent.{text_of};
 ghost use Rattle.stops.specs.Centre.{centre_faults, CentreReply, reply_values};
 
-use spans::outward::{Reach, Stop, walk};
+use spans::outward::{Stop, walk};
 use spans::{centre_count, check_walk};
 use terms::refusal::Refusal;
 use texts::Text;
@@ -23,13 +23,24 @@ fn check_centre(text: Text, d: usize, c: usize) -> Result<(), Refusal>
     Ok(())
 }
 
+// The maximal length of a centre, and what stops it.
+#[derive(Clone, Copy, Debug, PartialEq, Eq)]
+pub struct CentreStop {
+    pub length: usize,
+    pub stop: Stop,
+}
+
 // The question for the centre c: its maximal length, and what stops it.
-pub fn centre_stop(text: Text, d: usize, c: usize) -> Result<Reach, Refusal>
+pub fn centre_stop(text: Text, d: usize, c: usize) -> Result<CentreStop, Refusal>
     ensures { CentreReply (text_of text.entry) d c result }
 {
     check_centre(text, d, c)?;
     let own = text.own_partner();
-    Ok(walk(text, d, c, own))
+    let found = walk(text, d, c, own);
+    Ok(CentreStop {
+        length: usize::from(found.length),
+        stop: found.stop,
+    })
 }
 
 // A reply in numbers, as it is printed, and so no Result: the refusal's number and zeros, or 0, the length, the case's number and its two values.
@@ -43,11 +54,12 @@ pub struct CentreFigures {
 }
 
 // The reply in numbers, as it is printed.
-pub fn figures(found: Result<Reach, Refusal>) -> CentreFigures
+#[tactic(auto, unfolding(crate::specs::Centre::reply_values))]
+pub fn figures(found: Result<CentreStop, Refusal>) -> CentreFigures
     ensures { (result.number ≡ fault_of found) × ((result.length ∷ result.case ∷ result.left ∷ result.right ∷ []) ≡ reply_values found) }
 {
     match found {
-        Ok(Reach { length, stop }) => {
+        Ok(CentreStop { length, stop }) => {
             let (case, left, right) = match stop {
                 Stop::Pair { left, right } => (1, left, right),
                 Stop::End => (2, 0, 0),
@@ -55,7 +67,7 @@ pub fn figures(found: Result<Reach, Refusal>) -> CentreFigures
             };
             CentreFigures {
                 number: 0,
-                length: usize::from(length),
+                length,
                 case,
                 left,
                 right,

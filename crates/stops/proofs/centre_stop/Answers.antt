@@ -11,12 +11,12 @@ returns-in_err-check_centre c = centre_refused _ _ _ _ _ c.from_residual.ensures
 pub own_partner-own-requires : goal.own_partner-own-requires
 own_partner-own-requires c = (centre_sound (text_of c.args.text) _ _ _ c.in_ok-check_centre.ensures refl).0.wide
 
-pub walk-requires : goal.walk-requires
-walk-requires c = let h = centre_sound (text_of c.args.text) _ _ _ c.in_ok-check_centre.ensures refl in omega (arith, h)
+pub walk-found-requires : goal.walk-found-requires
+walk-found-requires c = let h = centre_sound (text_of c.args.text) _ _ _ c.in_ok-check_centre.ensures refl in omega (arith, h)
 
 pub returns : goal.returns
 returns c =
     let z = c.args.text.alphabet.now in
     let sound = (centre_sound (text_of c.args.text) _ _ _ c.in_ok-check_centre.ensures refl).0 in
     let own = c.own_partner-own.ensures in
-    record { number = c.in_ok-check_centre.ensures; accepted = (c.walk.ensures.maximal z sound own, c.walk.ensures.stopped z sound own) }
+    record { number = c.in_ok-check_centre.ensures; accepted = (rw c.from.ensures (c.walk-found.ensures.maximal z sound own), c.walk-found.ensures.stopped z sound own) }
