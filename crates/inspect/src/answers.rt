@@ -57,7 +57,7 @@ fn tiling(asked: TilingAsk, string: &[u8], lends: Lends<'_>) -> usize
 }
 
 // `S`: the tiling question on a sheet, or why the sheet is not opened.
-// Not inlined, and `one_centre` neither: with both in `answer` the walk of the centres lay where its loop took 1.4 of the time (docs/SPEED.md, Where a loop lies).
+// Not inlined: in `answer` it made a line `S` on few letters dearer. Nor is `one_centre`: with this one alone apart, the walk of the centres lay where its loop takes 1.4 of the time (docs/SPEED.md, Where a loop lies).
 #[inline(never)]
 fn sheet_tiling(asked: TilingAsk, string: &[u8], lends: Lends<'_>) -> usize
     ensures { result ≤ length lends.entry.out.now }
